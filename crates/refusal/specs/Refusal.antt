@@ -2,41 +2,22 @@
 -- Assumes nothing.
 use Prim.Native.Nat.{ℕ}
 use Rattle.refusal.specs.declared.Refusal.{Refusal}
-use Rattle.refusal.specs.declared.Refusal.the-variants.{
-  Inadmissible,
-  HeaderCheckDiffers,
-  PayloadCompressed,
-  SegmentTooLong,
-  PayloadCheckDiffers,
-  UnexpectedSelfContained,
-  ReassemblyTooShort,
-  NegativeLength,
-  UnknownVersion,
-  UnknownOpcode,
-  TracingIdCutShort,
-  PastEnd,
-  NotUtf8,
-  OutputTooShort,
-  NotWritable,
-  EnvelopeDoesNotFit,
-  SegmentNotEmpty,
-}
 
 abbrev pub numberOf : Refusal → ℕ
-numberOf Inadmissible = 1
-numberOf HeaderCheckDiffers = 2
-numberOf PayloadCompressed = 3
-numberOf SegmentTooLong = 4
-numberOf PayloadCheckDiffers = 5
-numberOf UnexpectedSelfContained = 6
-numberOf ReassemblyTooShort = 7
-numberOf NegativeLength = 8
-numberOf UnknownVersion = 9
-numberOf UnknownOpcode = 10
-numberOf TracingIdCutShort = 11
-numberOf PastEnd = 12
-numberOf NotUtf8 = 13
-numberOf OutputTooShort = 14
-numberOf NotWritable = 15
-numberOf EnvelopeDoesNotFit = 16
-numberOf SegmentNotEmpty = 17
+numberOf Refusal.Inadmissible = 1
+numberOf Refusal.HeaderCheckDiffers = 2
+numberOf Refusal.PayloadCompressed = 3
+numberOf Refusal.SegmentTooLong = 4
+numberOf Refusal.PayloadCheckDiffers = 5
+numberOf Refusal.UnexpectedSelfContained = 6
+numberOf Refusal.ReassemblyTooShort = 7
+numberOf Refusal.NegativeLength = 8
+numberOf Refusal.UnknownVersion = 9
+numberOf Refusal.UnknownOpcode = 10
+numberOf Refusal.TracingIdCutShort = 11
+numberOf Refusal.PastEnd = 12
+numberOf Refusal.NotUtf8 = 13
+numberOf Refusal.OutputTooShort = 14
+numberOf Refusal.NotWritable = 15
+numberOf Refusal.EnvelopeDoesNotFit = 16
+numberOf Refusal.SegmentNotEmpty = 17
