@@ -1,0 +1,8 @@
+-- Laws that belong to no one function.
+pub mod BigEndian
+pub mod Signed
+pub mod Put
+pub mod Tested
+pub mod Reading
+pub mod Table
+pub mod Scalar

@@ -1,0 +1,108 @@
+-- What writing a notation at a position of an output leaves there and says: docs/RULES.md, section 7.
+-- Assumes nothing.
+use Prim.Native.Nat.{ℕ, zero, suc, _+_}
+use mathlib.Core.Path.{_≡_}
+use mathlib.Core.Bool.{Bool, true, false, cond, _&&_}
+use mathlib.Core.List.{List, [], _∷_, _++_}
+use mathlib.Core.Option.{Option, none, some}
+use lib.Dec.{leb, eqb}
+use lib.ListN.{length, take, drop}
+use Rattle.types.specs.Answer.{Answer, got, refused}
+use Rattle.types.specs.Number.{digits}
+use Rattle.types.specs.Utf8.{utf8}
+
+-- out, with bs in the place of what stood from index `at` on
+unfoldable pub put : List ℕ → ℕ → List ℕ → List ℕ
+put out at bs = take at out ++ bs ++ drop (at + length bs) out
+
+-- what speaks against writing something: nothing, or the number of a refusal
+pub data Check : Type 0 where
+  fine : Check
+  against : ℕ → Check
+
+-- the number unless the test holds; then what else there is
+abbrev pub demand : Bool → ℕ → Check → Check
+demand true number rest = rest
+demand false number rest = against number
+
+-- what is answered where bs are to be written at a position of out: 14 comes after the check
+abbrev pub written : Check → List ℕ → ℕ → List ℕ → Answer Unit
+written fine out at bs = cond (leb (at + length bs) (length out)) (got tt (at + length bs)) (refused 14)
+written (against number) out at bs = refused number
+
+-- what the output then holds
+abbrev pub output : Check → List ℕ → ℕ → List ℕ → List ℕ
+output fine out at bs = cond (leb (at + length bs) (length out)) (put out at bs) out
+output (against number) out at bs = out
+
+-- both, as a writer's promise has it: the answer, and what it leaves
+pub record Wrote (check : Check) (out : List ℕ) (at : ℕ) (bs : List ℕ) (answer : Answer Unit) (left : List ℕ) : Type 0 where
+  pub says : answer ≡ written check out at bs
+  pub leaves : left ≡ output check out at bs
+
+-- ---- the widths of counts
+
+-- the largest [short] and the largest [int]
+abbrev pub maxShort : ℕ
+maxShort = 65535
+
+abbrev pub maxInt : ℕ
+maxInt = 2147483647
+
+-- ---- bytes and texts
+
+-- some bytes behind their count of n bytes
+unfoldable pub counted : ℕ → List ℕ → List ℕ
+counted n t = digits n (length t) ++ t
+
+abbrev pub countCheck : ℕ → List ℕ → Check
+countCheck limit t = demand (leb (length t) limit) 15 fine
+
+abbrev pub textCheck : ℕ → List ℕ → Check
+textCheck limit t = demand (leb (length t) limit) 15 (demand (utf8 t) 13 fine)
+
+-- [uuid]
+abbrev pub uuidCheck : List ℕ → Check
+uuidCheck t = demand (eqb (length t) 16) 15 fine
+
+-- [bytes]: null is the count -1, whose four bytes are ff
+abbrev pub bytesBytes : Option (List ℕ) → List ℕ
+bytesBytes none = digits 4 0xffff_ffff
+bytesBytes (some t) = counted 4 t
+
+abbrev pub bytesCheck : Option (List ℕ) → Check
+bytesCheck none = fine
+bytesCheck (some t) = countCheck maxInt t
+
+-- ---- [string list]: one text, cut by a list of lengths
+
+-- the texts, each of the length that it is given
+unfoldable pub cutBy : List ℕ → List ℕ → List (List ℕ)
+cutBy t [] = []
+cutBy t (n ∷ ns) = take n t ∷ cutBy (drop n t) ns
+
+unfoldable pub total : List ℕ → ℕ
+total [] = 0
+total (n ∷ ns) = n + total ns
+
+unfoldable pub allShort : List ℕ → Bool
+allShort [] = true
+allShort (n ∷ ns) = leb n maxShort && allShort ns
+
+unfoldable pub allUtf8 : List (List ℕ) → Bool
+allUtf8 [] = true
+allUtf8 (t ∷ ts) = utf8 t && allUtf8 ts
+
+unfoldable pub stringsBytes : List (List ℕ) → List ℕ
+stringsBytes [] = []
+stringsBytes (t ∷ ts) = counted 2 t ++ stringsBytes ts
+
+unfoldable pub listBytes : List (List ℕ) → List ℕ
+listBytes ts = digits 2 (length ts) ++ stringsBytes ts
+
+unfoldable pub listCheck : List ℕ → List ℕ → Check
+listCheck t ns =
+    demand (leb (length ns) maxShort) 15
+    (demand (allShort ns) 15
+    (demand (eqb (total ns) (length t)) 15
+    (demand (allUtf8 (cutBy t ns)) 13 fine)))
