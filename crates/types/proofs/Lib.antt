@@ -2,6 +2,7 @@
 pub mod BigEndian
 pub mod Signed
 pub mod Put
+pub mod Cut
 pub mod Tested
 pub mod Reading
 pub mod Table

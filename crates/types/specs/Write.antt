@@ -100,9 +100,12 @@ stringsBytes (t ∷ ts) = counted 2 t ++ stringsBytes ts
 unfoldable pub listBytes : List (List ℕ) → List ℕ
 listBytes ts = digits 2 (length ts) ++ stringsBytes ts
 
+-- each length fits a [short], and together they are `sum`
+unfoldable pub lengthsFit : ℕ → List ℕ → Bool
+lengthsFit sum ns = allShort ns && eqb sum (total ns)
+
 unfoldable pub listCheck : List ℕ → List ℕ → Check
 listCheck t ns =
     demand (leb (length ns) maxShort) 15
-    (demand (allShort ns) 15
-    (demand (eqb (total ns) (length t)) 15
-    (demand (allUtf8 (cutBy t ns)) 13 fine)))
+    (demand (lengthsFit (length t) ns) 15
+    (demand (allUtf8 (cutBy t ns)) 13 fine))

@@ -11,6 +11,11 @@ pub mod read;
 pub mod utf8;
 pub mod write;
 
+// The largest [short] and the largest [int].
+pub const MAX_SHORT: usize = 65_535;
+
+pub const MAX_INT: usize = 2_147_483_647;
+
 // Where some bytes stand in lent ones.
 pub struct Span {
     pub start: usize,

@@ -9,17 +9,14 @@ ghost use mir.Val.{ofZ};
 ghost use Rattle.types.specs.Number.{digits};
 ghost use Rattle.types.specs.Write.{Wrote, fine, counted, countCheck, textCheck, uuidCheck, bytesBytes, bytesCheck, maxShort, maxInt, cutBy, listBytes, listCheck};
 ghost use Rattle.types.specs.Paper.{paperWritable, paperWritten};
+use crate::MAX_INT;
+use crate::MAX_SHORT;
 use crate::Writable;
 use crate::Written;
 use crate::inner;
 use crate::number;
 use crate::utf8;
 use refusal::Refusal;
-
-// The largest [short] and the largest [int].
-pub const MAX_SHORT: usize = 65_535;
-
-pub const MAX_INT: usize = 2_147_483_647;
 
 // A number of n bytes.
 fn write_number(out: &mut [u8], at: usize, n: usize, x: u64) -> Written
@@ -158,4 +155,23 @@ pub fn write_long_string(out: &mut [u8], at: usize, text: &[u8]) -> Written
     ensures { λ r. ⌜ Wrote (textCheck maxInt (now (text .entry))) (now (out .entry)) at (counted 4 (now (text .entry))) (paperWritten r) (now (out .exit)) ⌝ }
 {
     write_text(out, at, 4, MAX_INT, text)
+}
+
+// [string list]: the texts that the lengths cut the one text into.
+pub fn write_string_list(out: &mut [u8], at: usize, text: &[u8], lens: &[usize]) -> Written
+    ensures { λ r. ⌜ Wrote (listCheck (now (text .entry)) (now (lens .entry))) (now (out .entry)) at (listBytes (cutBy (now (text .entry)) (now (lens .entry)))) (paperWritten r) (now (out .exit)) ⌝ }
+{
+    match inner::check_list(text, lens) {
+        Writable::Yes => {
+            let size = 2 + 2 * lens.len() + text.len();
+            if inner::room(out.len(), at, size) {
+                inner::put_list(out, at, text, lens);
+                let next = at + size;
+                Written::Next(next)
+            } else {
+                Written::Refused(Refusal::OutputTooShort)
+            }
+        }
+        Writable::No(e) => Written::Refused(e),
+    }
 }
