@@ -180,7 +180,7 @@ pub record Writes (t ns : List ℕ) : Type 0 where
   pub lengths : lengthsFit (length t) ns ≡ true
   pub texts : allUtf8 (cutBy t ns) ≡ true
 
-demand-fine : (t : Bool) (number : ℕ) (rest : Check) → demand t number rest ≡ fine → (t ≡ true) × (rest ≡ fine)
+pub demand-fine : (t : Bool) (number : ℕ) (rest : Check) → demand t number rest ≡ fine → (t ≡ true) × (rest ≡ fine)
 demand-fine true number rest e = (refl, e)
 demand-fine false number rest e = let z : _≡_ {A = ℕ} 0 1 = cc in let f : ⊥ = omega arith in absurd f
 

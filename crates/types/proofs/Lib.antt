@@ -3,7 +3,11 @@ pub mod BigEndian
 pub mod Signed
 pub mod Put
 pub mod Cut
+pub mod Holds
+pub mod WrittenRead
+pub mod ReadWritten
 pub mod Tested
 pub mod Reading
+pub mod Found
 pub mod Table
 pub mod Scalar
