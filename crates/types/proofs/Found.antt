@@ -43,6 +43,13 @@ got-next {A} e = ap (λ (a : Answer A). position a) e
     position (got w end) = end
     position (refused n) = 0
 
+pub refused-number : {A : Type 0} {d e : ℕ} → _≡_ {A = Answer A} (refused d) (refused e) → d ≡ e
+refused-number {A} r = ap (λ (a : Answer A). number a) r
+  where
+    number : Answer A → ℕ
+    number (got w end) = 0
+    number (refused n) = n
+
 -- a value that was read behind something: what was read first, and then it
 pub record Behind {A B : Type 0} (a : Answer A) (f : A → ℕ → Answer B) (w : B) (end : ℕ) : Type 0 where
   pub value : A

@@ -6,6 +6,8 @@ pub mod Cut
 pub mod Holds
 pub mod WrittenRead
 pub mod ReadWritten
+pub mod Lists
+pub mod Steady
 pub mod Tested
 pub mod Reading
 pub mod Found

@@ -114,7 +114,7 @@ module _ (s : List ℕ) (b : Bytes s) (at n c : ℕ) (count : c ≡ be (part s a
 
 -- what was read behind a [short], or behind an [int] that counts
 module _ (s : List ℕ) (b : Bytes s) (at : ℕ) where
-  short-small : {x end : ℕ} → Found s at 2 (be (part s at 2)) x end → x ≤ maxShort
+  pub short-small : {x end : ℕ} → Found s at 2 (be (part s at 2)) x end → x ≤ maxShort
   short-small f =
       let below : be (part s at 2) < 65536 = be-below 2 (part s at 2) (length-part s at 2 (f .room)) (bytes-part s at 2 b) in
       omega (arith, f .value)

@@ -110,6 +110,11 @@ unfoldable pub stringsAt : List ℕ → ℕ → ℕ → Answer (List Place)
 stringsAt s zero at = got [] at
 stringsAt s (suc n) at = andThen (stringAt s at) (λ p next. andThen (stringsAt s n next) (λ ps end. got (p ∷ ps) end))
 
+-- the texts that stand at some places
+unfoldable pub textsIn : List ℕ → List Place → List (List ℕ)
+textsIn s [] = []
+textsIn s (p ∷ ps) = bytesIn s p ∷ textsIn s ps
+
 -- [string list]
 unfoldable pub listed : List ℕ → ℕ → ℕ → Answer Strings
 listed s n start = andThen (stringsAt s n start) (λ ps next. got (strings n start) next)

@@ -81,6 +81,15 @@ unfoldable pub cutBy : List ℕ → List ℕ → List (List ℕ)
 cutBy t [] = []
 cutBy t (n ∷ ns) = take n t ∷ cutBy (drop n t) ns
 
+-- some texts as one text and a list of lengths
+unfoldable pub joined : List (List ℕ) → List ℕ
+joined [] = []
+joined (t ∷ ts) = t ++ joined ts
+
+unfoldable pub lengthsOf : List (List ℕ) → List ℕ
+lengthsOf [] = []
+lengthsOf (t ∷ ts) = length t ∷ lengthsOf ts
+
 unfoldable pub total : List ℕ → ℕ
 total [] = 0
 total (n ∷ ns) = n + total ns

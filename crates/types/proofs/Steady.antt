@@ -1,0 +1,350 @@
+-- A reader sees only what it reads: bytes behind that don't matter, and where some of it is cut off it says 12, or what it met before.
+-- Said once for readers that are put together from others. Assumes nothing.
+use Prim.Native.Nat.{ℕ, zero, suc, _+_, _≤_, _<_}
+use mathlib.Core.Path.{_≡_, refl, sym, ap, ap₂, _∙_, subst}
+use mathlib.Core.Bool.{Bool, true, false, cond}
+use mathlib.Core.Logic.{_⊎_, inl, inr, ⊎-elim}
+use mathlib.Core.List.{List, [], _∷_, _++_}
+use mathlib.Core.Option.{Option, none, some}
+use native.Mathlib.Omega.{arith}
+use native.Mathlib.Nat.{le-refl, le-of-eq, le-of-lt, lt-of-not-le}
+use native.Mathlib.Decide.{decLe}
+use lib.Dec.{leb}
+use lib.ListN.{length, take, drop, length-append, take-append-drop}
+use lib.Seq.{take-take, take-add, take-append-le, take-all, drop-at, length-take-le}
+use mir.Syntax.{Width, w32, w64}
+use mir.Val.{toZ}
+use borrow.Author.Tests.{le-leb, leb-true}
+use Rattle.types.specs.Answer.{Answer, got, refused, andThen}
+use Rattle.types.specs.Number.{be, part}
+use Rattle.types.specs.Utf8.{utf8}
+use Rattle.types.specs.Read.{Place, numberAt, signedAt, byteAt, shortAt, intAt, longAt, runAt, textAt, uuidAt, natural, countAt, longText, nullableRun, shortBytesAt, stringAt, longStringAt, bytesAt, strings, stringsAt, listed, stringListAt}
+use Rattle.types.proofs.Reading.{then-got, then-refused, number-read, number-past, run-read, run-past, text-read, text-not, text-past}
+use Rattle.types.proofs.Found.{got-refused, got-next, refused-number, behind, number-found, run-found, text-found}
+
+-- ---- parts
+
+-- a part of the bytes before a position is a part of them
+part-front : (s : List ℕ) (at n : ℕ) → at ≤ length s → drop at (take (at + n) s) ≡ part s at n
+part-front s at n h = ap (drop at) (take-add at n s) ∙ drop-at (take at s) (part s at n) at (length-take-le at s h)
+
+part-same : (s t : List ℕ) (at n : ℕ) → at + n ≤ length s → at + n ≤ length t → take (at + n) t ≡ take (at + n) s → part t at n ≡ part s at n
+part-same s t at n h k e = sym (part-front t at n (omega arith)) ∙ ap (drop at) e ∙ part-front s at n (omega arith)
+
+part-more : (s q : List ℕ) (at n : ℕ) → at + n ≤ length s → part (s ++ q) at n ≡ part s at n
+part-more s q at n h =
+    let l : length (s ++ q) ≡ length s + length q = length-append s q in
+    part-same s (s ++ q) at n h (omega arith) (take-append-le (at + n) s q h)
+
+-- the first k bytes are at most k, and at most as many as there are
+length-front : (k : ℕ) (s : List ℕ) → (length (take k s) ≤ k) × (length (take k s) ≤ length s)
+length-front k s =
+    elim (decLe k (length s)) [
+      | yes h ↦ let e : length (take k s) ≡ k = length-take-le k s h in omega arith
+      | no h ↦ let e : length (take k s) ≡ length s = ap length (take-all k s (le-of-lt (lt-of-not-le h))) in let j : length s < k = lt-of-not-le h in omega arith
+    ]
+
+-- ---- what it means
+
+-- from a position within the bytes
+pub record Local {A : Type 0} (read : List ℕ → ℕ → Answer A) : Type 0 where
+  -- it goes on, and not past the end
+  pub on : (s : List ℕ) (at : ℕ) {v : A} {next : ℕ} → read s at ≡ got v next → at ≤ next
+  pub inside : (s : List ℕ) (at : ℕ) {v : A} {next : ℕ} → at ≤ length s → read s at ≡ got v next → next ≤ length s
+  -- only what stands before the next position matters
+  pub same : (s t : List ℕ) (at : ℕ) {v : A} {next : ℕ} → read s at ≡ got v next → take next t ≡ take next s → next ≤ length t → read t at ≡ got v next
+  -- a refusal but 12 stays with more bytes behind
+  pub firm : (s q : List ℕ) (at : ℕ) {e : ℕ} → read s at ≡ refused e → (e ≡ 12) ⊎ (read (s ++ q) at ≡ refused e)
+
+-- from any position
+pub record Steady {A : Type 0} (read : List ℕ → ℕ → Answer A) : Type 0 where
+  pub local : Local read
+  pub bounded : (s : List ℕ) (at : ℕ) {v : A} {next : ℕ} → read s at ≡ got v next → next ≤ length s
+
+-- ---- what follows
+
+module _ {A : Type 0} (read : List ℕ → ℕ → Answer A) (steady : Steady read) (s : List ℕ) (at : ℕ) where
+  -- bytes are appended behind what was read, or other bytes stand there
+  pub appended : {v : A} {next : ℕ} → read s at ≡ got v next → (q : List ℕ) → read (s ++ q) at ≡ got v next
+  appended {next = next} e q =
+      let k : next ≤ length s = steady .bounded s at e in
+      let l : length (s ++ q) ≡ length s + length q = length-append s q in
+      steady .local .same s (s ++ q) at e (take-append-le next s q k) (omega arith)
+
+  pub exchanged : {v : A} {next : ℕ} → read s at ≡ got v next → (q : List ℕ) → read (take next s ++ q) at ≡ got v next
+  exchanged {next = next} e q =
+      let k : next ≤ length s = steady .bounded s at e in
+      let m : length (take next s) ≡ next = length-take-le next s k in
+      let l : length (take next s ++ q) ≡ length (take next s) + length q = length-append (take next s) q in
+      steady .local .same s (take next s ++ q) at e
+      (take-append-le next (take next s) q (omega arith) ∙ take-take next next s (le-refl next)) (omega arith)
+
+  pub appended-refused : {e : ℕ} → read s at ≡ refused e → (e ≡ 12 → ⊥) → (q : List ℕ) → read (s ++ q) at ≡ refused e
+  appended-refused p n q = ⊎-elim (λ t. absurd (n t)) (λ r. r) (steady .local .firm s q at p)
+
+  -- the first k bytes alone
+  front : (k : ℕ) → take k s ++ drop k s ≡ s
+  front k = take-append-drop k s
+
+  same-front : (k : ℕ) {v : A} {next : ℕ} → read (take k s) at ≡ got v next → (read s at ≡ got v next) × (next ≤ k)
+  same-front k {next = next} e =
+      let h : next ≤ length (take k s) = steady .bounded (take k s) at e in
+      let b = length-front k s in
+      let l : next ≤ k = omega (arith, b .0) in
+      let m : next ≤ length s = omega (arith, b .1) in
+      (steady .local .same (take k s) s at e (sym (take-take next k s l)) m, l)
+
+  -- some of what was read is cut off
+  pub cut-off : {v : A} {next : ℕ} → read s at ≡ got v next → (k : ℕ) → k < next → read (take k s) at ≡ refused 12
+  cut-off {v} {next} e k h = by-answer (read (take k s) at) refl
+    where
+      by-answer : (a : Answer A) → read (take k s) at ≡ a → a ≡ refused 12
+      by-answer (got w m) p =
+          let f = same-front k p in
+          let z : m ≡ next = got-next (sym (f .0) ∙ e) in
+          let b : ⊥ = omega (arith, f .1) in
+          absurd b
+      by-answer (refused d) p =
+          ⊎-elim (λ t. ap refused t) (λ r. absurd (got-refused (sym r ∙ ap (λ (x : List ℕ). read x at) (front k) ∙ e))) (steady .local .firm (take k s) (drop k s) at p)
+
+  -- and where the whole is refused, what is left is refused with 12 or with the same number
+  pub cut-off-refused : {e : ℕ} → read s at ≡ refused e → (k : ℕ) → (read (take k s) at ≡ refused 12) ⊎ (read (take k s) at ≡ refused e)
+  cut-off-refused {e} q k = by-answer (read (take k s) at) refl
+    where
+      by-answer : (a : Answer A) → read (take k s) at ≡ a → (a ≡ refused 12) ⊎ (a ≡ refused e)
+      by-answer (got w m) p = absurd (got-refused (sym q ∙ same-front k p .0))
+      by-answer (refused d) p =
+          ⊎-elim (λ t. inl (ap refused t)) (λ r. inr (sym r ∙ ap (λ (x : List ℕ). read x at) (front k) ∙ q)) (steady .local .firm (take k s) (drop k s) at p)
+
+-- ---- readers put together
+
+-- what is read is turned into something else, which may tell where it was read
+local-map : {A B : Type 0} {read : List ℕ → ℕ → Answer A} (f : ℕ → A → B) → Local read → Local (λ s at. andThen (read s at) (λ v next. got (f at v) next))
+local-map {A} {B} {read} f l =
+    record {
+      on = λ s at e. let b = behind (read s at) (λ v next. got (f at v) next) e in subst (λ (k : ℕ). at ≤ k) (got-next (b .then)) (l .on s at (b .first));
+      inside = λ s at h e. let b = behind (read s at) (λ v next. got (f at v) next) e in subst (λ (k : ℕ). k ≤ length s) (got-next (b .then)) (l .inside s at h (b .first));
+      same = λ s t at {v} {next} e p h.
+      let b = behind (read s at) (λ v next. got (f at v) next) e in
+      let z : b .next ≡ next = got-next (b .then) in
+      then-got (λ v next. got (f at v) next)
+      (l .same s t at (b .first) (subst (λ (k : ℕ). take k t ≡ take k s) (sym z) p) (subst (λ (k : ℕ). k ≤ length t) (sym z) h))
+      ∙ b .then;
+      firm = λ s q at {e} r. firm-by s q at e (read s at) refl r;
+    }
+  where
+    firm-by : (s q : List ℕ) (at e : ℕ) (a : Answer A) → read s at ≡ a → andThen a (λ v next. got (f at v) next) ≡ refused e
+        → (e ≡ 12) ⊎ (andThen (read (s ++ q) at) (λ v next. got (f at v) next) ≡ refused e)
+    firm-by s q at e (got v next) p r = absurd (got-refused (sym r))
+    firm-by s q at e (refused d) p r =
+        let z : d ≡ e = refused-number r in
+        ⊎-elim (λ t. inl (sym z ∙ t)) (λ t. inr (then-refused (λ v next. got (f at v) next) t ∙ ap refused z)) (l .firm s q at p)
+
+-- one behind the other
+local-then : {A B : Type 0} {read : List ℕ → ℕ → Answer A} {more : A → List ℕ → ℕ → Answer B} → Steady read → ((v : A) → Local (more v))
+    → Local (λ s at. andThen (read s at) (λ v next. more v s next))
+local-then {A} {B} {read} {more} r l =
+    record {
+      on = λ s at {v} {next} e.
+      let b = behind (read s at) (λ v next. more v s next) e in
+      let x : at ≤ b .next = r .local .on s at (b .first) in
+      let y : b .next ≤ next = l (b .value) .on s (b .next) (b .then) in
+      omega arith;
+      inside = λ s at h e. bounded-then s at e;
+      same = λ s t at {v} {next} e p h.
+      let b = behind (read s at) (λ v next. more v s next) e in
+      let y : b .next ≤ next = l (b .value) .on s (b .next) (b .then) in
+      then-got (λ v next. more v t next)
+      (r .local .same s t at (b .first) (sym (take-take (b .next) next t y) ∙ ap (take (b .next)) p ∙ take-take (b .next) next s y) (omega arith))
+      ∙ l (b .value) .same s t (b .next) (b .then) p h;
+      firm = λ s q at {e} f. firm-by s q at e (read s at) refl f;
+    }
+  where
+    bounded-then : (s : List ℕ) (at : ℕ) {w : B} {end : ℕ} → andThen (read s at) (λ v next. more v s next) ≡ got w end → end ≤ length s
+    bounded-then s at e =
+        let b = behind (read s at) (λ v next. more v s next) e in
+        l (b .value) .inside s (b .next) (r .bounded s at (b .first)) (b .then)
+
+    firm-by : (s q : List ℕ) (at e : ℕ) (a : Answer A) → read s at ≡ a → andThen a (λ v next. more v s next) ≡ refused e
+        → (e ≡ 12) ⊎ (andThen (read (s ++ q) at) (λ v next. more v (s ++ q) next) ≡ refused e)
+    firm-by s q at e (got v next) p f =
+        ⊎-elim inl (λ t. inr (then-got (λ v next. more v (s ++ q) next) (appended read r s at p q) ∙ t)) (l v .firm s q next f)
+    firm-by s q at e (refused d) p f =
+        let z : d ≡ e = refused-number f in
+        ⊎-elim (λ t. inl (sym z ∙ t)) (λ t. inr (then-refused (λ v next. more v (s ++ q) next) t ∙ ap refused z)) (r .local .firm s q at p)
+
+steady-map : {A B : Type 0} {read : List ℕ → ℕ → Answer A} (f : ℕ → A → B) → Steady read → Steady (λ s at. andThen (read s at) (λ v next. got (f at v) next))
+steady-map {read = read} f r =
+    record {
+      local = local-map f (r .local);
+      bounded = λ s at e.
+      let b = behind (read s at) (λ v next. got (f at v) next) e in
+      subst (λ (k : ℕ). k ≤ length s) (got-next (b .then)) (r .bounded s at (b .first));
+    }
+
+steady-then : {A B : Type 0} {read : List ℕ → ℕ → Answer A} {more : A → List ℕ → ℕ → Answer B} → Steady read → ((v : A) → Local (more v))
+    → Steady (λ s at. andThen (read s at) (λ v next. more v s next))
+steady-then {read = read} {more = more} r l =
+    record {
+      local = local-then r l;
+      bounded = λ s at e.
+      let b = behind (read s at) (λ v next. more v s next) e in
+      l (b .value) .inside s (b .next) (r .bounded s at (b .first)) (b .then);
+    }
+
+-- nothing is read
+local-none : {A : Type 0} (v : A) → Local (λ s at. got v at)
+local-none v =
+    record {
+      on = λ s at e. le-of-eq (got-next e);
+      inside = λ s at h e. subst (λ (k : ℕ). k ≤ length s) (got-next e) h;
+      same = λ s t at e p h. e;
+      firm = λ s q at r. absurd (got-refused (sym r));
+    }
+
+local-refused : {A : Type 0} (n : ℕ) → Local {A = A} (λ s at. refused n)
+local-refused n =
+    record {
+      on = λ s at e. absurd (got-refused e);
+      inside = λ s at h e. absurd (got-refused e);
+      same = λ s t at e p h. absurd (got-refused e);
+      firm = λ s q at r. inr r;
+    }
+
+-- ---- the notations
+
+-- n bytes that mean something by themselves
+record Fixed {A : Type 0} (n : ℕ) (read : List ℕ → ℕ → Answer A) : Type 0 where
+  room : (s : List ℕ) (at : ℕ) {v : A} {end : ℕ} → read s at ≡ got v end → at + n ≤ length s
+  ends : (s : List ℕ) (at : ℕ) {v : A} {end : ℕ} → read s at ≡ got v end → end ≡ at + n
+  again : (s t : List ℕ) (at : ℕ) {v : A} {end : ℕ} → read s at ≡ got v end → at + n ≤ length t → part t at n ≡ part s at n → read t at ≡ got v end
+  firm : (s q : List ℕ) (at : ℕ) {e : ℕ} → read s at ≡ refused e → (e ≡ 12) ⊎ (read (s ++ q) at ≡ refused e)
+
+steady-fixed : {A : Type 0} {n : ℕ} {read : List ℕ → ℕ → Answer A} → Fixed n read → Steady read
+steady-fixed {A} {n} {read} f =
+    record {
+      local = record {
+        on = λ s at e. omega (arith, f .ends s at e);
+        inside = λ s at h e. omega (arith, f .ends s at e, f .room s at e);
+        same = λ s t at e p h.
+        let z = f .ends s at e in
+        let k : at + n ≤ length t = subst (λ (j : ℕ). j ≤ length t) z h in
+        f .again s t at e k (part-same s t at n (f .room s at e) k (subst (λ (j : ℕ). take j t ≡ take j s) z p));
+        firm = f .firm;
+      };
+      bounded = λ s at e. omega (arith, f .ends s at e, f .room s at e);
+    }
+
+pub steady-number : (n : ℕ) → Steady (numberAt n)
+steady-number n =
+    steady-fixed {n = n}
+    (record {
+      room = λ s at e. number-found n s at e .room;
+      ends = λ s at e. number-found n s at e .ends;
+      again = λ s t at e h p.
+      let f = number-found n s at e in
+      number-read n t at (le-leb (at + n) (length t) h) ∙ ap₂ (λ (x k : ℕ). got x k) (ap be p ∙ sym (f .value)) (sym (f .ends));
+      firm = λ s q at {e} r. by-room s q at e (leb (at + n) (length s)) refl r;
+    })
+  where
+    by-room : (s q : List ℕ) (at e : ℕ) (t : Bool) → leb (at + n) (length s) ≡ t → numberAt n s at ≡ refused e → (e ≡ 12) ⊎ (numberAt n (s ++ q) at ≡ refused e)
+    by-room s q at e true p r = absurd (got-refused (sym r ∙ number-read n s at p))
+    by-room s q at e false p r = inl (refused-number (sym r ∙ number-past n s at p))
+
+pub steady-run : (n : ℕ) → Steady (λ s at. runAt s n at)
+steady-run n =
+    steady-fixed {n = n}
+    (record {
+      room = λ s at e. run-found n s at e .room;
+      ends = λ s at e. run-found n s at e .ends;
+      again = λ s t at e h p.
+      let f = run-found n s at e in
+      run-read n t at (le-leb (at + n) (length t) h) ∙ ap₂ (λ (x : Place) (k : ℕ). got x k) (sym (f .value)) (sym (f .ends));
+      firm = λ s q at {e} r. by-room s q at e (leb (at + n) (length s)) refl r;
+    })
+  where
+    by-room : (s q : List ℕ) (at e : ℕ) (t : Bool) → leb (at + n) (length s) ≡ t → runAt s n at ≡ refused e → (e ≡ 12) ⊎ (runAt (s ++ q) n at ≡ refused e)
+    by-room s q at e true p r = absurd (got-refused (sym r ∙ run-read n s at p))
+    by-room s q at e false p r = inl (refused-number (sym r ∙ run-past n s at p))
+
+pub steady-text : (n : ℕ) → Steady (λ s at. textAt s n at)
+steady-text n =
+    steady-fixed {n = n}
+    (record {
+      room = λ s at e. text-found n s at e .run .room;
+      ends = λ s at e. text-found n s at e .run .ends;
+      again = λ s t at e h p.
+      let f = text-found n s at e in
+      text-read n t at (le-leb (at + n) (length t) h) (ap utf8 p ∙ f .text) ∙ ap₂ (λ (x : Place) (k : ℕ). got x k) (sym (f .run .value)) (sym (f .run .ends));
+      firm = λ s q at {e} r. by-room s q at e (leb (at + n) (length s)) refl (utf8 (part s at n)) refl r;
+    })
+  where
+    by-room : (s q : List ℕ) (at e : ℕ) (t : Bool) → leb (at + n) (length s) ≡ t → (u : Bool) → utf8 (part s at n) ≡ u → textAt s n at ≡ refused e
+        → (e ≡ 12) ⊎ (textAt (s ++ q) n at ≡ refused e)
+    by-room s q at e false p u z r = inl (refused-number (sym r ∙ text-past n s at p))
+    by-room s q at e true p true z r = absurd (got-refused (sym r ∙ text-read n s at p z))
+    by-room s q at e true p false z r =
+        let h : at + n ≤ length s = leb-true (at + n) (length s) p in
+        let l : length (s ++ q) ≡ length s + length q = length-append s q in
+        inr
+        (text-not n (s ++ q) at (le-leb (at + n) (length (s ++ q)) (omega arith)) (ap utf8 (part-more s q at n h) ∙ z) ∙ sym (text-not n s at p z) ∙ r)
+
+pub steady-signed : (w : Width) (n : ℕ) → Steady (signedAt w n)
+unfolding signedAt
+steady-signed w n = steady-map (λ at. toZ w) (steady-number n)
+
+pub steady-byte : Steady byteAt
+steady-byte = steady-number 1
+
+pub steady-short : Steady shortAt
+steady-short = steady-number 2
+
+pub steady-int : Steady intAt
+steady-int = steady-signed w32 4
+
+pub steady-long : Steady longAt
+steady-long = steady-signed w64 8
+
+pub steady-uuid : Steady uuidAt
+steady-uuid = steady-run 16
+
+pub steady-count : Steady countAt
+unfolding countAt
+steady-count = steady-map (λ at. natural) steady-int
+
+pub steady-short-bytes : Steady shortBytesAt
+unfolding shortBytesAt
+steady-short-bytes = steady-then steady-short (λ n. steady-run n .local)
+
+pub steady-string : Steady stringAt
+unfolding stringAt
+steady-string = steady-then steady-short (λ n. steady-text n .local)
+
+local-long-text : (c : Option ℕ) → Local (λ s at. longText s c at)
+local-long-text none = local-refused 8
+local-long-text (some n) = steady-text n .local
+
+pub steady-long-string : Steady longStringAt
+unfolding longStringAt
+steady-long-string = steady-then steady-count local-long-text
+
+local-nullable : (c : Option ℕ) → Local (λ s at. nullableRun s c at)
+local-nullable none = local-none none
+local-nullable (some n) = local-map (λ at. some) (steady-run n .local)
+
+pub steady-bytes : Steady bytesAt
+unfolding bytesAt
+steady-bytes = steady-then steady-count local-nullable
+
+pub local-strings : (n : ℕ) → Local (λ s at. stringsAt s n at)
+unfolding stringsAt
+local-strings zero = local-none []
+local-strings (suc n) = local-then steady-string (λ p. local-map (λ (at : ℕ) (ps : List Place). p ∷ ps) (local-strings n))
+
+local-listed : (n : ℕ) → Local (λ s start. listed s n start)
+unfolding listed
+local-listed n = local-map (λ (start : ℕ) (ps : List Place). strings n start) (local-strings n)
+
+pub steady-string-list : Steady stringListAt
+unfolding stringListAt
+steady-string-list = steady-then steady-short local-listed
