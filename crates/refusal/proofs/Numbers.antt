@@ -13,10 +13,10 @@ ordered =
     ∷ Refusal.NegativeLength ∷ Refusal.UnknownVersion ∷ Refusal.UnknownOpcode ∷ Refusal.TracingIdCutShort ∷ Refusal.PastEnd ∷ Refusal.NotUtf8 ∷ Refusal.OutputTooShort ∷ Refusal.NotWritable ∷ Refusal.EnvelopeDoesNotFit
     ∷ Refusal.SegmentNotEmpty ∷ []
 
-refusalOf : ℕ → Refusal
+pub refusalOf : ℕ → Refusal
 refusalOf n = getD ordered (n - 1) Refusal.Inadmissible
 
-refusalOf-number : (e : Refusal) → refusalOf (numberOf e) ≡ e
+pub refusalOf-number : (e : Refusal) → refusalOf (numberOf e) ≡ e
 unfolding refusalOf
 refusalOf-number Refusal.Inadmissible = refl
 refusalOf-number Refusal.HeaderCheckDiffers = refl

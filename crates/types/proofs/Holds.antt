@@ -149,11 +149,11 @@ pub written-again : {check : Check} {at : ℕ} {bs s : List ℕ} {next : ℕ} �
 written-again {check} {at} {bs} {s} {next} st {answer} {left} w =
     let f : leb (at + length bs) (length s) ≡ true = le-leb (at + length bs) (length s) (st .holds .room) in (
       w .says
-      ∙ ap (λ (c : Check). written c s at bs) (st .nothing)
-      ∙ ap (λ (t : Bool). cond t (got (tt {0}) (at + length bs)) (refused 14)) f
-      ∙ ap (got (tt {0})) (sym (st .end)),
+          ∙ ap (λ (c : Check). written c s at bs) (st .nothing)
+          ∙ ap (λ (t : Bool). cond t (got (tt {0}) (at + length bs)) (refused 14)) f
+          ∙ ap (got (tt {0})) (sym (st .end)),
       w .leaves
-      ∙ ap (λ (c : Check). output c s at bs) (st .nothing)
-      ∙ ap (λ (t : Bool). cond t (put s at bs) s) f
-      ∙ put-same s at bs (st .holds),
+          ∙ ap (λ (c : Check). output c s at bs) (st .nothing)
+          ∙ ap (λ (t : Bool). cond t (put s at bs) s) f
+          ∙ put-same s at bs (st .holds),
     )

@@ -8,6 +8,9 @@ pub mod WrittenRead
 pub mod ReadWritten
 pub mod Lists
 pub mod Steady
+pub mod Walking
+pub mod Told
+pub mod Determined
 pub mod Tested
 pub mod Reading
 pub mod Found

@@ -51,8 +51,8 @@ strings-back (t ∷ ts) f s at h =
     add-assoc at (length (counted 2 t)) (length (stringsBytes ts)) ∙ ap (λ (k : ℕ). at + k) (sym (length-append (counted 2 t) (stringsBytes ts)))
     in (
       then-got (λ p next. andThen (stringsAt s (length ts) next) (λ ps end. got (p ∷ ps) end)) (string-back t (f .0) s at first)
-      ∙ then-got (λ ps end. got (place (at + 2) (length t) ∷ ps) end) (rest .0)
-      ∙ ap (got (place (at + 2) (length t) ∷ placesFrom mid ts)) end,
+          ∙ then-got (λ ps end. got (place (at + 2) (length t) ∷ ps) end) (rest .0)
+          ∙ ap (got (place (at + 2) (length t) ∷ placesFrom mid ts)) end,
       ap₂ (λ (x : List ℕ) (xs : List (List ℕ)). x ∷ xs) (content-back 2 t s at first) (rest .1),
     )
 
@@ -82,8 +82,8 @@ module _ (t ns : List ℕ) (c : listCheck t ns ≡ fine) (s : List ℕ) (at : �
       in
       let all = strings-back ts (pieces-fit t ns (w .lengths) (w .texts)) s (at + 2) there in (
         ap (λ (n : ℕ). stringsAt s n (at + 2)) (sym (length-cut t ns))
-        ∙ all .0
-        ∙ ap (got (placesFrom (at + 2) ts)) (add-assoc at 2 (length (stringsBytes ts)) ∙ ap (λ (k : ℕ). at + k) (sym (list-apart ts))),
+            ∙ all .0
+            ∙ ap (got (placesFrom (at + 2) ts)) (add-assoc at 2 (length (stringsBytes ts)) ∙ ap (λ (k : ℕ). at + k) (sym (list-apart ts))),
         all .1,
       )
 

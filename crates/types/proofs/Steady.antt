@@ -125,11 +125,11 @@ local-map {A} {B} {read} f l =
       on = λ s at e. let b = behind (read s at) (λ v next. got (f at v) next) e in subst (λ (k : ℕ). at ≤ k) (got-next (b .then)) (l .on s at (b .first));
       inside = λ s at h e. let b = behind (read s at) (λ v next. got (f at v) next) e in subst (λ (k : ℕ). k ≤ length s) (got-next (b .then)) (l .inside s at h (b .first));
       same = λ s t at {v} {next} e p h.
-      let b = behind (read s at) (λ v next. got (f at v) next) e in
-      let z : b .next ≡ next = got-next (b .then) in
-      then-got (λ v next. got (f at v) next)
-      (l .same s t at (b .first) (subst (λ (k : ℕ). take k t ≡ take k s) (sym z) p) (subst (λ (k : ℕ). k ≤ length t) (sym z) h))
-      ∙ b .then;
+          let b = behind (read s at) (λ v next. got (f at v) next) e in
+          let z : b .next ≡ next = got-next (b .then) in
+          then-got (λ v next. got (f at v) next)
+          (l .same s t at (b .first) (subst (λ (k : ℕ). take k t ≡ take k s) (sym z) p) (subst (λ (k : ℕ). k ≤ length t) (sym z) h))
+          ∙ b .then;
       firm = λ s q at {e} r. firm-by s q at e (read s at) refl r;
     }
   where
@@ -146,17 +146,17 @@ local-then : {A B : Type 0} {read : List ℕ → ℕ → Answer A} {more : A →
 local-then {A} {B} {read} {more} r l =
     record {
       on = λ s at {v} {next} e.
-      let b = behind (read s at) (λ v next. more v s next) e in
-      let x : at ≤ b .next = r .local .on s at (b .first) in
-      let y : b .next ≤ next = l (b .value) .on s (b .next) (b .then) in
-      omega arith;
+          let b = behind (read s at) (λ v next. more v s next) e in
+          let x : at ≤ b .next = r .local .on s at (b .first) in
+          let y : b .next ≤ next = l (b .value) .on s (b .next) (b .then) in
+          omega arith;
       inside = λ s at h e. bounded-then s at e;
       same = λ s t at {v} {next} e p h.
-      let b = behind (read s at) (λ v next. more v s next) e in
-      let y : b .next ≤ next = l (b .value) .on s (b .next) (b .then) in
-      then-got (λ v next. more v t next)
-      (r .local .same s t at (b .first) (sym (take-take (b .next) next t y) ∙ ap (take (b .next)) p ∙ take-take (b .next) next s y) (omega arith))
-      ∙ l (b .value) .same s t (b .next) (b .then) p h;
+          let b = behind (read s at) (λ v next. more v s next) e in
+          let y : b .next ≤ next = l (b .value) .on s (b .next) (b .then) in
+          then-got (λ v next. more v t next)
+          (r .local .same s t at (b .first) (sym (take-take (b .next) next t y) ∙ ap (take (b .next)) p ∙ take-take (b .next) next s y) (omega arith))
+          ∙ l (b .value) .same s t (b .next) (b .then) p h;
       firm = λ s q at {e} f. firm-by s q at e (read s at) refl f;
     }
   where
@@ -178,8 +178,8 @@ steady-map {read = read} f r =
     record {
       local = local-map f (r .local);
       bounded = λ s at e.
-      let b = behind (read s at) (λ v next. got (f at v) next) e in
-      subst (λ (k : ℕ). k ≤ length s) (got-next (b .then)) (r .bounded s at (b .first));
+          let b = behind (read s at) (λ v next. got (f at v) next) e in
+          subst (λ (k : ℕ). k ≤ length s) (got-next (b .then)) (r .bounded s at (b .first));
     }
 
 steady-then : {A B : Type 0} {read : List ℕ → ℕ → Answer A} {more : A → List ℕ → ℕ → Answer B} → Steady read → ((v : A) → Local (more v))
@@ -188,8 +188,8 @@ steady-then {read = read} {more = more} r l =
     record {
       local = local-then r l;
       bounded = λ s at e.
-      let b = behind (read s at) (λ v next. more v s next) e in
-      l (b .value) .inside s (b .next) (r .bounded s at (b .first)) (b .then);
+          let b = behind (read s at) (λ v next. more v s next) e in
+          l (b .value) .inside s (b .next) (r .bounded s at (b .first)) (b .then);
     }
 
 -- nothing is read
@@ -227,9 +227,9 @@ steady-fixed {A} {n} {read} f =
         on = λ s at e. omega (arith, f .ends s at e);
         inside = λ s at h e. omega (arith, f .ends s at e, f .room s at e);
         same = λ s t at e p h.
-        let z = f .ends s at e in
-        let k : at + n ≤ length t = subst (λ (j : ℕ). j ≤ length t) z h in
-        f .again s t at e k (part-same s t at n (f .room s at e) k (subst (λ (j : ℕ). take j t ≡ take j s) z p));
+            let z = f .ends s at e in
+            let k : at + n ≤ length t = subst (λ (j : ℕ). j ≤ length t) z h in
+            f .again s t at e k (part-same s t at n (f .room s at e) k (subst (λ (j : ℕ). take j t ≡ take j s) z p));
         firm = f .firm;
       };
       bounded = λ s at e. omega (arith, f .ends s at e, f .room s at e);
@@ -242,8 +242,8 @@ steady-number n =
       room = λ s at e. number-found n s at e .room;
       ends = λ s at e. number-found n s at e .ends;
       again = λ s t at e h p.
-      let f = number-found n s at e in
-      number-read n t at (le-leb (at + n) (length t) h) ∙ ap₂ (λ (x k : ℕ). got x k) (ap be p ∙ sym (f .value)) (sym (f .ends));
+          let f = number-found n s at e in
+          number-read n t at (le-leb (at + n) (length t) h) ∙ ap₂ (λ (x k : ℕ). got x k) (ap be p ∙ sym (f .value)) (sym (f .ends));
       firm = λ s q at {e} r. by-room s q at e (leb (at + n) (length s)) refl r;
     })
   where
@@ -258,8 +258,8 @@ steady-run n =
       room = λ s at e. run-found n s at e .room;
       ends = λ s at e. run-found n s at e .ends;
       again = λ s t at e h p.
-      let f = run-found n s at e in
-      run-read n t at (le-leb (at + n) (length t) h) ∙ ap₂ (λ (x : Place) (k : ℕ). got x k) (sym (f .value)) (sym (f .ends));
+          let f = run-found n s at e in
+          run-read n t at (le-leb (at + n) (length t) h) ∙ ap₂ (λ (x : Place) (k : ℕ). got x k) (sym (f .value)) (sym (f .ends));
       firm = λ s q at {e} r. by-room s q at e (leb (at + n) (length s)) refl r;
     })
   where
@@ -274,8 +274,8 @@ steady-text n =
       room = λ s at e. text-found n s at e .run .room;
       ends = λ s at e. text-found n s at e .run .ends;
       again = λ s t at e h p.
-      let f = text-found n s at e in
-      text-read n t at (le-leb (at + n) (length t) h) (ap utf8 p ∙ f .text) ∙ ap₂ (λ (x : Place) (k : ℕ). got x k) (sym (f .run .value)) (sym (f .run .ends));
+          let f = text-found n s at e in
+          text-read n t at (le-leb (at + n) (length t) h) (ap utf8 p ∙ f .text) ∙ ap₂ (λ (x : Place) (k : ℕ). got x k) (sym (f .run .value)) (sym (f .run .ends));
       firm = λ s q at {e} r. by-room s q at e (leb (at + n) (length s)) refl (utf8 (part s at n)) refl r;
     })
   where

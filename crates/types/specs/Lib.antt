@@ -4,5 +4,6 @@ pub mod Number
 pub mod Utf8
 pub mod Read
 pub mod Write
+pub mod Along
 pub mod Paper
 pub mod Inside

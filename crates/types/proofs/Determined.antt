@@ -1,0 +1,154 @@
+-- Each public function's contract leaves nothing open: a line for each. Of a writer, the answer and what the output then holds.
+-- Assumes nothing.
+use Prim.Native.Nat.{ℕ}
+use mathlib.Core.Path.{_≡_, sym, ap₂, _∙_}
+use mathlib.Core.List.{List}
+use mathlib.Core.Option.{none, some}
+use mir.Syntax.{w32, w64}
+use mir.Val.{toZ, ofZ}
+use Rattle.basis.specs.Determined.{Determined, DeterminedAs}
+use Rattle.basis.proofs.Determined.{by-equation, by-sight, by-meaning, told-apart}
+use Rattle.types.specs.Number.{digits}
+use Rattle.types.specs.Utf8.{utf8}
+use Rattle.types.specs.Read.{byteAt, shortAt, intAt, longAt, uuidAt, shortBytesAt, stringAt, longStringAt, bytesAt, stringListAt, stepAt, bytesIn}
+use Rattle.types.specs.Write.{Check, fine, Wrote, counted, countCheck, textCheck, uuidCheck, bytesBytes, bytesCheck, maxShort, maxInt, cutBy, listBytes, listCheck}
+use Rattle.types.specs.Paper.{placeOf, paperWritten}
+use Rattle.types.specs.declared.Written.{Written}
+use Rattle.types.proofs.Told.{byte-told, short-told, int-told, long-told, part-told, bytes-told, strings-told, walked-told, written-told}
+use Rattle.types.proofs.part.Reads as hands
+use Rattle.types.proofs.utf8.is_utf8.Reads as tests
+use Rattle.types.proofs.number.signed32.Reads as signs32
+use Rattle.types.proofs.number.signed64.Reads as signs64
+use Rattle.types.proofs.number.bits32.Reads as bits32
+use Rattle.types.proofs.number.bits64.Reads as bits64
+use Rattle.types.proofs.read.read_byte.Reads as reads-byte
+use Rattle.types.proofs.read.read_short.Reads as reads-short
+use Rattle.types.proofs.read.read_int.Reads as reads-int
+use Rattle.types.proofs.read.read_long.Reads as reads-long
+use Rattle.types.proofs.read.read_uuid.Reads as reads-uuid
+use Rattle.types.proofs.read.read_short_bytes.Reads as reads-short-bytes
+use Rattle.types.proofs.read.read_string.Reads as reads-string
+use Rattle.types.proofs.read.read_long_string.Reads as reads-long-string
+use Rattle.types.proofs.read.read_bytes.Reads as reads-bytes
+use Rattle.types.proofs.read.read_string_list.Reads as reads-list
+use Rattle.types.proofs.read.next_string.Reads as steps
+use Rattle.types.proofs.write.write_byte.Reads as writes-byte
+use Rattle.types.proofs.write.write_short.Reads as writes-short
+use Rattle.types.proofs.write.write_int.Reads as writes-int
+use Rattle.types.proofs.write.write_long.Reads as writes-long
+use Rattle.types.proofs.write.write_uuid.Reads as writes-uuid
+use Rattle.types.proofs.write.write_short_bytes.Reads as writes-short-bytes
+use Rattle.types.proofs.write.write_string.Reads as writes-string
+use Rattle.types.proofs.write.write_long_string.Reads as writes-long-string
+use Rattle.types.proofs.write.write_bytes.Reads as writes-bytes
+use Rattle.types.proofs.write.write_null.Reads as writes-null
+use Rattle.types.proofs.write.write_string_list.Reads as writes-list
+
+-- ---- what a span holds, texts, signs
+
+pub part-determined : DeterminedAs (λ κs r e. r .now) hands.Post
+part-determined = by-sight (λ κs r e. r .now) (λ κs a. bytesIn (a .0 .now) (placeOf (a .1 .0)))
+
+pub is-utf8-determined : Determined tests.Post
+is-utf8-determined = by-equation (λ κs a. utf8 (a .0 .now))
+
+pub signed32-determined : Determined signs32.Post
+signed32-determined = by-equation (λ κs a. toZ w32 (a .0))
+
+pub signed64-determined : Determined signs64.Post
+signed64-determined = by-equation (λ κs a. toZ w64 (a .0))
+
+pub bits32-determined : Determined bits32.Post
+bits32-determined = by-equation (λ κs a. ofZ w32 (a .0))
+
+pub bits64-determined : Determined bits64.Post
+bits64-determined = by-equation (λ κs a. ofZ w64 (a .0))
+
+-- ---- readers
+
+pub read-byte-determined : Determined reads-byte.Post
+read-byte-determined = by-meaning byte-told (λ κs a. byteAt (a .0 .now) (a .1 .0))
+
+pub read-short-determined : Determined reads-short.Post
+read-short-determined = by-meaning short-told (λ κs a. shortAt (a .0 .now) (a .1 .0))
+
+pub read-int-determined : Determined reads-int.Post
+read-int-determined = by-meaning int-told (λ κs a. intAt (a .0 .now) (a .1 .0))
+
+pub read-long-determined : Determined reads-long.Post
+read-long-determined = by-meaning long-told (λ κs a. longAt (a .0 .now) (a .1 .0))
+
+pub read-uuid-determined : Determined reads-uuid.Post
+read-uuid-determined = by-meaning part-told (λ κs a. uuidAt (a .0 .now) (a .1 .0))
+
+pub read-short-bytes-determined : Determined reads-short-bytes.Post
+read-short-bytes-determined = by-meaning part-told (λ κs a. shortBytesAt (a .0 .now) (a .1 .0))
+
+pub read-string-determined : Determined reads-string.Post
+read-string-determined = by-meaning part-told (λ κs a. stringAt (a .0 .now) (a .1 .0))
+
+pub read-long-string-determined : Determined reads-long-string.Post
+read-long-string-determined = by-meaning part-told (λ κs a. longStringAt (a .0 .now) (a .1 .0))
+
+pub read-bytes-determined : Determined reads-bytes.Post
+read-bytes-determined = by-meaning bytes-told (λ κs a. bytesAt (a .0 .now) (a .1 .0))
+
+pub read-string-list-determined : Determined reads-list.Post
+read-string-list-determined = by-meaning strings-told (λ κs a. stringListAt (a .0 .now) (a .1 .0))
+
+pub next-string-determined : Determined steps.Post
+next-string-determined = by-meaning walked-told (λ κs a. stepAt (a .0 .now) (a .1 .0 .left) (a .1 .0 .at))
+
+-- ---- writers
+
+-- the answer, and what the output, which is lent first, then holds
+abbrev Outcome : Type 0
+Outcome = Written × List ℕ
+
+by-wrote {ℓ} :
+    {Lifetimes : Type ℓ} {Arguments Exit : Lifetimes → Type 0} (left : (κs : Lifetimes) → Exit κs → List ℕ)
+    (check : (κs : Lifetimes) → Arguments κs → Check) (out : (κs : Lifetimes) → Arguments κs → List ℕ)
+    (at : (κs : Lifetimes) → Arguments κs → ℕ) (bs : (κs : Lifetimes) → Arguments κs → List ℕ)
+    → DeterminedAs {Answer = λ κs. Written} {Seen = Outcome} (λ κs r e. (r, left κs e))
+    (λ κs a r e. Wrote (check κs a) (out κs a) (at κs a) (bs κs a) (paperWritten r) (left κs e))
+by-wrote left check out at bs =
+    record {
+      same = λ κs a r s e f p q.
+          ap₂ pair (told-apart written-told r s (p .says ∙ sym (q .says))) (p .leaves ∙ sym (q .leaves));
+    }
+  where
+    pair : Written → List ℕ → Outcome
+    pair r left = (r, left)
+
+pub write-byte-determined : DeterminedAs {Seen = Outcome} (λ κs r e. (r, e .0 .now)) writes-byte.Post
+write-byte-determined = by-wrote (λ κs e. e .0 .now) (λ κs a. fine) (λ κs a. a .0 .now) (λ κs a. a .1 .0) (λ κs a. digits 1 (a .1 .1 .0))
+
+pub write-short-determined : DeterminedAs {Seen = Outcome} (λ κs r e. (r, e .0 .now)) writes-short.Post
+write-short-determined = by-wrote (λ κs e. e .0 .now) (λ κs a. fine) (λ κs a. a .0 .now) (λ κs a. a .1 .0) (λ κs a. digits 2 (a .1 .1 .0))
+
+pub write-int-determined : DeterminedAs {Seen = Outcome} (λ κs r e. (r, e .0 .now)) writes-int.Post
+write-int-determined = by-wrote (λ κs e. e .0 .now) (λ κs a. fine) (λ κs a. a .0 .now) (λ κs a. a .1 .0) (λ κs a. digits 4 (ofZ w32 (a .1 .1 .0)))
+
+pub write-long-determined : DeterminedAs {Seen = Outcome} (λ κs r e. (r, e .0 .now)) writes-long.Post
+write-long-determined = by-wrote (λ κs e. e .0 .now) (λ κs a. fine) (λ κs a. a .0 .now) (λ κs a. a .1 .0) (λ κs a. digits 8 (ofZ w64 (a .1 .1 .0)))
+
+pub write-uuid-determined : DeterminedAs {Seen = Outcome} (λ κs r e. (r, e .0 .now)) writes-uuid.Post
+write-uuid-determined = by-wrote (λ κs e. e .0 .now) (λ κs a. uuidCheck (a .1 .1 .0 .now)) (λ κs a. a .0 .now) (λ κs a. a .1 .0) (λ κs a. a .1 .1 .0 .now)
+
+pub write-short-bytes-determined : DeterminedAs {Seen = Outcome} (λ κs r e. (r, e .0 .now)) writes-short-bytes.Post
+write-short-bytes-determined = by-wrote (λ κs e. e .0 .now) (λ κs a. countCheck maxShort (a .1 .1 .0 .now)) (λ κs a. a .0 .now) (λ κs a. a .1 .0) (λ κs a. counted 2 (a .1 .1 .0 .now))
+
+pub write-string-determined : DeterminedAs {Seen = Outcome} (λ κs r e. (r, e .0 .now)) writes-string.Post
+write-string-determined = by-wrote (λ κs e. e .0 .now) (λ κs a. textCheck maxShort (a .1 .1 .0 .now)) (λ κs a. a .0 .now) (λ κs a. a .1 .0) (λ κs a. counted 2 (a .1 .1 .0 .now))
+
+pub write-long-string-determined : DeterminedAs {Seen = Outcome} (λ κs r e. (r, e .0 .now)) writes-long-string.Post
+write-long-string-determined = by-wrote (λ κs e. e .0 .now) (λ κs a. textCheck maxInt (a .1 .1 .0 .now)) (λ κs a. a .0 .now) (λ κs a. a .1 .0) (λ κs a. counted 4 (a .1 .1 .0 .now))
+
+pub write-bytes-determined : DeterminedAs {Seen = Outcome} (λ κs r e. (r, e .0 .now)) writes-bytes.Post
+write-bytes-determined = by-wrote (λ κs e. e .0 .now) (λ κs a. bytesCheck (some (a .1 .1 .0 .now))) (λ κs a. a .0 .now) (λ κs a. a .1 .0) (λ κs a. bytesBytes (some (a .1 .1 .0 .now)))
+
+pub write-null-determined : DeterminedAs {Seen = Outcome} (λ κs r e. (r, e .0 .now)) writes-null.Post
+write-null-determined = by-wrote (λ κs e. e .0 .now) (λ κs a. bytesCheck none) (λ κs a. a .0 .now) (λ κs a. a .1 .0) (λ κs a. bytesBytes none)
+
+pub write-string-list-determined : DeterminedAs {Seen = Outcome} (λ κs r e. (r, e .0 .now)) writes-list.Post
+write-string-list-determined = by-wrote (λ κs e. e .0 .now) (λ κs a. listCheck (a .1 .1 .0 .now) (a .1 .1 .1 .0 .now)) (λ κs a. a .0 .now) (λ κs a. a .1 .0) (λ κs a. listBytes (cutBy (a .1 .1 .0 .now) (a .1 .1 .1 .0 .now)))
