@@ -12,7 +12,7 @@ use lib.Seq.{drop-cons, drop-drop, length-take-le}
 use lib.Dec.{leb, eqb}
 use borrow.Author.Tests.{le-leb, lt-leb, leb-true, eqb-true, eqb-false, eq-eqb, ne-eqb}
 use Rattle.types.specs.Number.{digits, part}
-use Rattle.types.specs.Utf8.{utf8}
+use Rattle.utf8.specs.Utf8.{utf8}
 use Rattle.types.specs.Write.{put, counted, maxShort, total, allShort, allUtf8, lengthsFit, cutBy, stringsBytes, listBytes, listCheck, Check, fine, demand}
 use Rattle.types.proofs.BigEndian.{length-digits}
 use Rattle.types.proofs.Put.{length-counted, put-then}

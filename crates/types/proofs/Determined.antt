@@ -9,14 +9,12 @@ use mir.Val.{toZ, ofZ}
 use Rattle.basis.specs.Determined.{Determined, DeterminedAs}
 use Rattle.basis.proofs.Determined.{by-equation, by-sight, by-meaning, told-apart}
 use Rattle.types.specs.Number.{digits}
-use Rattle.types.specs.Utf8.{utf8}
 use Rattle.types.specs.Read.{byteAt, shortAt, intAt, longAt, uuidAt, shortBytesAt, stringAt, longStringAt, bytesAt, stringListAt, stepAt, bytesIn}
 use Rattle.types.specs.Write.{Check, fine, Wrote, counted, countCheck, textCheck, uuidCheck, bytesBytes, bytesCheck, maxShort, maxInt, cutBy, listBytes, listCheck}
 use Rattle.types.specs.Paper.{placeOf, paperWritten}
 use Rattle.types.specs.declared.Written.{Written}
 use Rattle.types.proofs.Told.{byte-told, short-told, int-told, long-told, part-told, bytes-told, strings-told, walked-told, written-told}
 use Rattle.types.proofs.part.Reads as hands
-use Rattle.types.proofs.utf8.is_utf8.Reads as tests
 use Rattle.types.proofs.number.signed32.Reads as signs32
 use Rattle.types.proofs.number.signed64.Reads as signs64
 use Rattle.types.proofs.number.bits32.Reads as bits32
@@ -44,13 +42,10 @@ use Rattle.types.proofs.write.write_bytes.Reads as writes-bytes
 use Rattle.types.proofs.write.write_null.Reads as writes-null
 use Rattle.types.proofs.write.write_string_list.Reads as writes-list
 
--- ---- what a span holds, texts, signs
+-- ---- what a span holds, signs
 
 pub part-determined : DeterminedAs (λ κs r e. r .now) hands.Post
 part-determined = by-sight (λ κs r e. r .now) (λ κs a. bytesIn (a .0 .now) (placeOf (a .1 .0)))
-
-pub is-utf8-determined : Determined tests.Post
-is-utf8-determined = by-equation (λ κs a. utf8 (a .0 .now))
 
 pub signed32-determined : Determined signs32.Post
 signed32-determined = by-equation (λ κs a. toZ w32 (a .0))

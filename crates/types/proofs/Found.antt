@@ -15,7 +15,7 @@ use mir.Val.{toZ}
 use borrow.Author.Tests.{leb-true}
 use Rattle.types.specs.Answer.{Answer, got, refused, andThen}
 use Rattle.types.specs.Number.{be, part}
-use Rattle.types.specs.Utf8.{utf8}
+use Rattle.utf8.specs.Utf8.{utf8}
 use Rattle.types.specs.Read.{Place, place, numberAt, signedAt, runAt, textAt, natural, countAt}
 use Rattle.types.proofs.Reading.{natural-some, natural-none}
 

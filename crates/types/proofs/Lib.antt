@@ -14,5 +14,3 @@ pub mod Determined
 pub mod Tested
 pub mod Reading
 pub mod Found
-pub mod Table
-pub mod Scalar

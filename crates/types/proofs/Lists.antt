@@ -12,7 +12,7 @@ use borrow.Author.Tests.{le-leb, eq-eqb, leb-true}
 use Rattle.basis.specs.Bytes.{Bytes}
 use Rattle.types.specs.Answer.{Answer, got, refused, andThen}
 use Rattle.types.specs.Number.{be, part, digits}
-use Rattle.types.specs.Utf8.{utf8}
+use Rattle.utf8.specs.Utf8.{utf8}
 use Rattle.types.specs.Read.{Place, place, Strings, strings, shortAt, stringAt, stringsAt, listed, stringListAt, bytesIn, textsIn}
 use Rattle.types.specs.Write.{Check, fine, demand, counted, textCheck, maxShort, cutBy, joined, lengthsOf, total, allShort, lengthsFit, allUtf8, stringsBytes, listBytes, listCheck}
 use Rattle.types.proofs.BigEndian.{length-digits}

@@ -16,7 +16,7 @@ use borrow.Author.Tests.{le-leb, eq-eqb}
 use Rattle.basis.specs.Bytes.{Bytes}
 use Rattle.types.specs.Answer.{Answer, got, refused, andThen}
 use Rattle.types.specs.Number.{be, part, digits}
-use Rattle.types.specs.Utf8.{utf8}
+use Rattle.utf8.specs.Utf8.{utf8}
 use Rattle.types.specs.Read.{Place, place, numberAt, signedAt, byteAt, shortAt, intAt, longAt, runAt, textAt, uuidAt, natural, countAt, longText, nullableRun, shortBytesAt, stringAt, longStringAt, bytesAt, bytesIn}
 use Rattle.types.specs.Write.{Check, fine, demand, counted, countCheck, textCheck, uuidCheck, bytesBytes, bytesCheck, maxShort, maxInt}
 use Rattle.types.proofs.BigEndian.{length-digits, digits-be, be-below, length-part, bytes-part}

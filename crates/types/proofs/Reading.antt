@@ -15,7 +15,7 @@ use mir.Val.{toZ, bits, hbits, sel}
 use mir.ValLaws.{toZ-pos}
 use Rattle.types.specs.Answer.{Answer, got, refused, andThen}
 use Rattle.types.specs.Number.{be, part}
-use Rattle.types.specs.Utf8.{utf8}
+use Rattle.utf8.specs.Utf8.{utf8}
 use Rattle.types.specs.Read.{Place, place, Strings, strings, numberAt, signedAt, runAt, textAt, natural, countAt, stringAt, stringsAt, listed, stepAt, bytesIn}
 use Rattle.types.specs.Inside.{endOf}
 

@@ -17,7 +17,7 @@ use mir.Val.{toZ}
 use borrow.Author.Tests.{le-leb, leb-true}
 use Rattle.types.specs.Answer.{Answer, got, refused, andThen}
 use Rattle.types.specs.Number.{be, part}
-use Rattle.types.specs.Utf8.{utf8}
+use Rattle.utf8.specs.Utf8.{utf8}
 use Rattle.types.specs.Read.{Place, numberAt, signedAt, byteAt, shortAt, intAt, longAt, runAt, textAt, uuidAt, natural, countAt, longText, nullableRun, shortBytesAt, stringAt, longStringAt, bytesAt, strings, stringsAt, listed, stringListAt}
 use Rattle.types.proofs.Reading.{then-got, then-refused, number-read, number-past, run-read, run-past, text-read, text-not, text-past}
 use Rattle.types.proofs.Found.{got-refused, got-next, refused-number, behind, number-found, run-found, text-found}

@@ -16,7 +16,7 @@ use mir.ValLaws.{toZ-ofZ, ofZ-fits}
 use borrow.Author.Tests.{le-leb, leb-true, eqb-true}
 use Rattle.types.specs.Answer.{Answer, got, refused, andThen}
 use Rattle.types.specs.Number.{be, part, digits}
-use Rattle.types.specs.Utf8.{utf8}
+use Rattle.utf8.specs.Utf8.{utf8}
 use Rattle.types.specs.Read.{Place, place, Strings, strings, numberAt, signedAt, byteAt, shortAt, intAt, longAt, runAt, textAt, uuidAt, natural, countAt, longText, nullableRun, shortBytesAt, stringAt, longStringAt, bytesAt, stringsAt, listed, stringListAt, bytesIn}
 use Rattle.types.specs.Write.{Check, fine, demand, counted, countCheck, textCheck, uuidCheck, bytesBytes, bytesCheck, maxShort, maxInt, allUtf8, stringsBytes, listBytes, Wrote}
 use Rattle.types.proofs.BigEndian.{length-digits, be-digits-fit}

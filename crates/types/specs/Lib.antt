@@ -1,7 +1,6 @@
 -- What the notations mean: docs/RULES.md, sections 5 and 7.
 pub mod Answer
 pub mod Number
-pub mod Utf8
 pub mod Read
 pub mod Write
 pub mod Along

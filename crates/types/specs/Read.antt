@@ -12,7 +12,7 @@ use mir.Syntax.{Width, w32, w64}
 use mir.Val.{toZ}
 use Rattle.types.specs.Answer.{Answer, got, refused, andThen}
 use Rattle.types.specs.Number.{be, part}
-use Rattle.types.specs.Utf8.{utf8}
+use Rattle.utf8.specs.Utf8.{utf8}
 
 -- where some bytes stand
 pub record Place : Type 0 where

@@ -9,7 +9,6 @@ ghost use Rattle.types.specs.Write.{put, counted, lengthsFit, allUtf8, c
 ghost use Rattle.types.specs.Paper.{paperWritable};
 use crate::MAX_SHORT;
 use crate::Writable;
-use crate::utf8;
 use refusal::Refusal;
 
 // n elements stand from at on in a slice of len; the second half tells a caller what that means.

@@ -8,7 +8,6 @@ use refusal::Refusal;
 pub mod inner;
 pub mod number;
 pub mod read;
-pub mod utf8;
 pub mod write;
 
 // The largest [short] and the largest [int].

@@ -15,7 +15,6 @@ use crate::Walk;
 use crate::Walked;
 use crate::inner;
 use crate::number;
-use crate::utf8;
 use refusal::Refusal;
 
 pub fn read_byte(bytes: &[u8], at: usize) -> ReadByte

@@ -15,7 +15,6 @@ use crate::Writable;
 use crate::Written;
 use crate::inner;
 use crate::number;
-use crate::utf8;
 use refusal::Refusal;
 
 // A number of n bytes.

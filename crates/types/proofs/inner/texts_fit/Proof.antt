@@ -6,7 +6,7 @@ use borrow.Author.Needs.{needs}
 use native.Mathlib.Omega.{arith}
 use native.Mathlib.Nat.{sub-zero, sub-add-eq}
 use lib.ListN.{length, drop}
-use Rattle.types.specs.Utf8.{utf8}
+use Rattle.utf8.specs.Utf8.{utf8}
 use Rattle.types.specs.Write.{lengthsFit, allUtf8, cutBy}
 use Rattle.types.proofs.BigEndian.{part-of}
 use Rattle.types.proofs.Cut.{fit-next, utf8-goes-on, utf8-stops, utf8-end}

@@ -2,7 +2,7 @@
 use mathlib.Core.Path.{_≡_, sym, ap, _∙_}
 use borrow.Author.Needs.{needs}
 use native.Mathlib.Omega.{arith}
-use Rattle.types.specs.Utf8.{utf8}
+use Rattle.utf8.specs.Utf8.{utf8}
 use Rattle.types.proofs.BigEndian.{part-of}
 use Rattle.types.proofs.Reading.{text-read, text-not, text-past}
 use Rattle.types.proofs.read.read_text.Statement.{statement}

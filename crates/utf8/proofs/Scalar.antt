@@ -8,8 +8,8 @@ use mathlib.Core.List.{List, [], _∷_, _++_}
 use native.Mathlib.Omega.{arith}
 use native.Mathlib.Nat.{lt-of-not-le}
 use native.Mathlib.Decide.{decLe}
-use Rattle.types.specs.Utf8.{Range, range, tail, within, Row, rows, Want, wants, never, begin, step, after, whole, utf8}
-use Rattle.types.proofs.Table.{Lies, lies-within, above-within, below-within, Among, here, there, Rising, rising, begins}
+use Rattle.utf8.specs.Utf8.{Range, range, tail, within, Row, rows, Want, wants, never, begin, step, after, whole, utf8}
+use Rattle.utf8.proofs.Table.{Lies, lies-within, above-within, below-within, Among, here, there, Rising, rising, begins}
 
 -- a scalar value and its bytes, by its size
 pub data Encodes : ℕ → List ℕ → Type 0 where

@@ -1,11 +1,11 @@
--- `types::utf8::first` meets its contract: each answer is what the row asks for in which the byte lies. Assumes nothing.
+-- `utf8::first` meets its contract: each answer is what the row asks for in which the byte lies. Assumes nothing.
 use mathlib.Core.Path.{_≡_, sym, ap, _∙_}
 use native.Mathlib.Omega.{arith}
 use borrow.Author.Needs.{needs}
-use Rattle.types.specs.Inside.{wantOf, tails}
-use Rattle.types.proofs.Table.{here, there, rising, begins, never-begins, never-begins-high}
-use Rattle.types.proofs.utf8.first.Statement.{statement}
-use Rattle.types.proofs.utf8.first.Tie as tie
+use Rattle.utf8.specs.Waiting.{wantOf, tails}
+use Rattle.utf8.proofs.Table.{here, there, rising, begins, never-begins, never-begins-high}
+use Rattle.utf8.proofs.first.Statement.{statement}
+use Rattle.utf8.proofs.first.Tie as tie
 
 pub first-spec : {M : Type 1} → statement M
 unfolding tails

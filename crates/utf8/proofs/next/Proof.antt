@@ -1,13 +1,13 @@
--- `types::utf8::next` meets its contract: the tests are those of the range that is wanted. Assumes nothing.
+-- `utf8::next` meets its contract: the tests are those of the range that is wanted. Assumes nothing.
 use mathlib.Core.Path.{_≡_, refl, sym, ap, _∙_}
 use mathlib.Core.List.{List, _∷_}
 use borrow.Author.Needs.{needs}
 use native.Mathlib.Omega.{arith}
-use Rattle.types.specs.Utf8.{Want, wants, range, step}
-use Rattle.types.specs.Inside.{wantOf}
-use Rattle.types.proofs.Table.{tail-below, tail-above, tail-fits, tails-none, tails-more}
-use Rattle.types.proofs.utf8.next.Statement.{statement}
-use Rattle.types.proofs.utf8.next.Tie as tie
+use Rattle.utf8.specs.Utf8.{Want, wants, range, step}
+use Rattle.utf8.specs.Waiting.{wantOf}
+use Rattle.utf8.proofs.Table.{tail-below, tail-above, tail-fits, tails-none, tails-more}
+use Rattle.utf8.proofs.next.Statement.{statement}
+use Rattle.utf8.proofs.next.Tie as tie
 
 pub next-spec : {M : Type 1} → statement M
 unfolding step

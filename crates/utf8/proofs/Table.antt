@@ -10,8 +10,8 @@ use native.Mathlib.Nat.{not-suc-le-zero}
 use borrow.Author.Tests.{le-leb, lt-leb}
 use lib.ListN.{length, drop, getD, drop-of-length-le}
 use lib.Seq.{drop-cons}
-use Rattle.types.specs.Utf8.{Range, range, tail, within, Row, rows, Want, wants, never, begin, step, after, whole, utf8}
-use Rattle.types.specs.Inside.{tails}
+use Rattle.utf8.specs.Utf8.{Range, range, tail, within, Row, rows, Want, wants, never, begin, step, after, whole, utf8}
+use Rattle.utf8.specs.Waiting.{tails}
 
 -- ---- a range
 

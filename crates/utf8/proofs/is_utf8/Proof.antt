@@ -1,4 +1,4 @@
--- `types::utf8::is_utf8` meets its contract: what is wanted after the bytes passed, and then the rest, is what is wanted after all.
+-- `utf8::is_utf8` meets its contract: what is wanted after the bytes passed, and then the rest, is what is wanted after all.
 -- Assumes nothing.
 use Prim.Native.Nat.{_≤_, _-_, _+_}
 use mathlib.Core.Path.{_≡_, refl, sym, ap, _∙_}
@@ -6,11 +6,11 @@ use mathlib.Core.List.{[]}
 use borrow.Author.Needs.{needs}
 use native.Mathlib.Omega.{arith}
 use lib.ListN.{length, drop, getD}
-use Rattle.types.specs.Utf8.{Want, wants, after}
-use Rattle.types.specs.Inside.{wantOf}
-use Rattle.types.proofs.Table.{after-next, utf8-end}
-use Rattle.types.proofs.utf8.is_utf8.Statement.{statement}
-use Rattle.types.proofs.utf8.is_utf8.Tie as tie
+use Rattle.utf8.specs.Utf8.{Want, wants, after}
+use Rattle.utf8.specs.Waiting.{wantOf}
+use Rattle.utf8.proofs.Table.{after-next, utf8-end}
+use Rattle.utf8.proofs.is_utf8.Statement.{statement}
+use Rattle.utf8.proofs.is_utf8.Tie as tie
 
 abbrev Inv-loop : tie.InvT-loop
 Inv-loop bytes w₀ i₀ w i = (i ≤ length bytes) × (after (wants []) bytes ≡ after (wantOf w) (drop i bytes))

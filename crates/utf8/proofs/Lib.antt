@@ -1,0 +1,4 @@
+-- Laws that belong to no one function.
+pub mod Table
+pub mod Scalar
+pub mod Determined

@@ -1,0 +1,3 @@
+-- What UTF-8 is: docs/RULES.md, 5.2.
+pub mod Utf8
+pub mod Waiting
