@@ -42,7 +42,7 @@ use Rattle.types.proofs.write.write_bytes.Reads as writes-bytes
 use Rattle.types.proofs.write.write_null.Reads as writes-null
 use Rattle.types.proofs.write.write_string_list.Reads as writes-list
 
--- ---- what a span holds, signs
+-- ---- what a place holds, signs
 
 pub part-determined : DeterminedAs (λ κs r e. r .now) hands.Post
 part-determined = by-sight (λ κs r e. r .now) (λ κs a. bytesIn (a .0 .now) (placeOf (a .1 .0)))

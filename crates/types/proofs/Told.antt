@@ -10,7 +10,7 @@ use Rattle.types.specs.Answer.{Answer, got, refused}
 use Rattle.types.specs.Read.{Place, Strings}
 use Rattle.types.specs.Write.{Check, fine, against}
 use Rattle.types.specs.Paper.{paperByte, paperShort, paperInt, paperLong, paperPart, paperBytes, paperStrings, paperWalked, paperWritable, paperWritten}
-use Rattle.types.specs.declared.Span.{Span}
+use Rattle.types.specs.declared.Place as code
 use Rattle.types.specs.declared.Walk.{Walk}
 use Rattle.types.specs.declared.ReadByte.{ReadByte}
 use Rattle.types.specs.declared.ReadShort.{ReadShort}
@@ -23,8 +23,8 @@ use Rattle.types.specs.declared.Walked.{Walked}
 use Rattle.types.specs.declared.Writable.{Writable}
 use Rattle.types.specs.declared.Written.{Written}
 
-abbrev spanOf : Place → Span
-spanOf p = record { start = p .start; len = p .count }
+abbrev codePlace : Place → code.Place
+codePlace p = record { start = p .start; len = p .count }
 
 abbrev walkOf : ℕ → ℕ → Walk
 walkOf left at = record { left = left; at = at }
@@ -70,17 +70,17 @@ long-told = record { back = answered ReadLong.Value ReadLong.Refused; is = long-
 
 -- ---- bytes and texts
 
-part-is : (r : ReadPart) → answered (λ p. ReadPart.Part (spanOf p)) ReadPart.Refused (paperPart r) ≡ r
+part-is : (r : ReadPart) → answered (λ p. ReadPart.Part (codePlace p)) ReadPart.Refused (paperPart r) ≡ r
 unfolding answered
 part-is (ReadPart.Part p next) = refl
 part-is (ReadPart.Refused e) = ap ReadPart.Refused (refusalOf-number e)
 
 pub part-told : Tells paperPart
-part-told = record { back = answered (λ p. ReadPart.Part (spanOf p)) ReadPart.Refused; is = part-is }
+part-told = record { back = answered (λ p. ReadPart.Part (codePlace p)) ReadPart.Refused; is = part-is }
 
 bytes-of : Answer (Option Place) → ReadBytes
 bytes-of (got none next) = ReadBytes.Null next
-bytes-of (got (some p) next) = ReadBytes.Part (spanOf p) next
+bytes-of (got (some p) next) = ReadBytes.Part (codePlace p) next
 bytes-of (refused n) = ReadBytes.Refused (refusalOf n)
 
 bytes-is : (r : ReadBytes) → bytes-of (paperBytes r) ≡ r
@@ -104,7 +104,7 @@ strings-told = record { back = answered (λ l. ReadStrings.Strings (walkOf (l .c
 
 walked-of : Answer (Option (Place × ℕ)) → Walked
 walked-of (got none next) = Walked.End next
-walked-of (got (some x) next) = Walked.Text (spanOf (x .0)) (walkOf (x .1) next)
+walked-of (got (some x) next) = Walked.Text (codePlace (x .0)) (walkOf (x .1) next)
 walked-of (refused n) = Walked.Refused (refusalOf n)
 
 walked-is : (r : Walked) → walked-of (paperWalked r) ≡ r

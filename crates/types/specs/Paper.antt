@@ -6,7 +6,7 @@ use Rattle.refusal.specs.Refusal.{numberOf}
 use Rattle.types.specs.Answer.{Answer, got, refused}
 use Rattle.types.specs.Read.{Place, place, Strings, strings}
 use Rattle.types.specs.Write.{Check, fine, against}
-use Rattle.types.specs.declared.Span.{Span}
+use Rattle.types.specs.declared.Place as code
 use Rattle.types.specs.declared.Walk.{Walk}
 use Rattle.types.specs.declared.ReadByte.{ReadByte}
 use Rattle.types.specs.declared.ReadShort.{ReadShort}
@@ -19,7 +19,7 @@ use Rattle.types.specs.declared.Walked.{Walked}
 use Rattle.types.specs.declared.Writable.{Writable}
 use Rattle.types.specs.declared.Written.{Written}
 
-abbrev pub placeOf : Span → Place
+abbrev pub placeOf : code.Place → Place
 placeOf p = place (p .start) (p .len)
 
 abbrev pub stringsOf : Walk → Strings

@@ -16,7 +16,7 @@ pub const MAX_SHORT: usize = 65_535;
 pub const MAX_INT: usize = 2_147_483_647;
 
 // Where some bytes stand in lent ones.
-pub struct Span {
+pub struct Place {
     pub start: usize,
     pub len: usize,
 }
@@ -49,13 +49,13 @@ pub enum ReadLong {
 }
 
 pub enum ReadPart {
-    Part(Span, usize),
+    Part(Place, usize),
     Refused(Refusal),
 }
 
 pub enum ReadBytes {
     Null(usize),
-    Part(Span, usize),
+    Part(Place, usize),
     Refused(Refusal),
 }
 
@@ -66,7 +66,7 @@ pub enum ReadStrings {
 
 // A step along some strings: a text with those behind it, or the position behind the last.
 pub enum Walked {
-    Text(Span, Walk),
+    Text(Place, Walk),
     End(usize),
     Refused(Refusal),
 }
@@ -83,12 +83,12 @@ pub enum Written {
     Refused(Refusal),
 }
 
-// The bytes of a span, and none where it runs past the end.
-pub fn part<'a>(bytes: &'a [u8], span: Span) -> &'a [u8]
-    ensures { λ r. ⌜ now r ≡ bytesIn (now (bytes .entry)) (placeOf span) ⌝ }
+// The bytes of a place, and none where it runs past the end.
+pub fn part<'a>(bytes: &'a [u8], place: Place) -> &'a [u8]
+    ensures { λ r. ⌜ now r ≡ bytesIn (now (bytes .entry)) (placeOf place) ⌝ }
 {
-    let start = span.start;
-    let len = span.len;
+    let start = place.start;
+    let len = place.len;
     if inner::room(bytes.len(), start, len) {
         let end = start + len;
         &bytes[start..end]

@@ -3,6 +3,7 @@ ghost use mathlib.Core.Path.{_≡_};
 ghost use Rattle.types.specs.Read.{byteAt, shortAt, intAt, longAt, countAt, runAt, textAt, uuidAt, stringAt, longStringAt, shortBytesAt, bytesAt, stringsAt, stringListAt, stepAt};
 ghost use Rattle.types.specs.Paper.{paperByte, paperShort, paperInt, paperLong, paperPart, paperBytes, paperStrings, paperWalked};
 ghost use Rattle.types.specs.Inside.{paperCount, paperEnd, endOf};
+use crate::Place;
 use crate::ReadByte;
 use crate::ReadBytes;
 use crate::ReadInt;
@@ -10,7 +11,6 @@ use crate::ReadLong;
 use crate::ReadPart;
 use crate::ReadShort;
 use crate::ReadStrings;
-use crate::Span;
 use crate::Walk;
 use crate::Walked;
 use crate::inner;
@@ -96,7 +96,7 @@ fn read_run(bytes: &[u8], n: usize, at: usize) -> ReadPart
 {
     if inner::room(bytes.len(), at, n) {
         let next = at + n;
-        ReadPart::Part(Span { start: at, len: n }, next)
+        ReadPart::Part(Place { start: at, len: n }, next)
     } else {
         ReadPart::Refused(Refusal::PastEnd)
     }
@@ -109,7 +109,7 @@ fn read_text(bytes: &[u8], n: usize, at: usize) -> ReadPart
     if inner::room(bytes.len(), at, n) {
         let next = at + n;
         if utf8::is_utf8(&bytes[at..next]) {
-            ReadPart::Part(Span { start: at, len: n }, next)
+            ReadPart::Part(Place { start: at, len: n }, next)
         } else {
             ReadPart::Refused(Refusal::NotUtf8)
         }

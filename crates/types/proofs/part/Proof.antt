@@ -1,4 +1,4 @@
--- `types::part` meets its contract: the span lies in the bytes, or nothing is handed back. Assumes nothing.
+-- `types::part` meets its contract: the place lies in the bytes, or nothing is handed back. Assumes nothing.
 use mathlib.Core.Path.{_≡_, sym, ap, _∙_}
 use borrow.Author.Needs.{needs}
 use native.Mathlib.Omega.{arith}
@@ -19,6 +19,6 @@ part-spec =
     (λ c. search needs)
     (λ c.
     let a = c .before .before .before .before .args in
-    part-of (a .bytes .now) (a .span .start) (a .span .len)
+    part-of (a .bytes .now) (a .place .start) (a .place .len)
     ∙ sym (bytes-there _ _ _ (sym (c .before .before .room .ensures .0) ∙ c .before .if1 .taken)))
     (λ c. sym (bytes-none _ _ _ (sym (c .before .before .room .ensures .0) ∙ c .before .if1 .left))))
