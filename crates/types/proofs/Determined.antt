@@ -1,7 +1,7 @@
 -- Each public function's contract leaves nothing open: a line for each. Of a writer, the answer and what the output then holds.
 -- Assumes nothing.
 use Prim.Native.Nat.{ℕ}
-use mathlib.Core.Path.{_≡_, sym, ap₂, _∙_}
+use mathlib.Core.Path.{sym, ap₂, _∙_}
 use mathlib.Core.List.{List}
 use mathlib.Core.Option.{none, some}
 use mir.Syntax.{w32, w64}

@@ -2,17 +2,17 @@
 use Prim.Native.Nat.{ℕ, _+_, _≤_}
 use mathlib.Core.Path.{_≡_, refl, sym, ap, ap₂, _∙_, subst}
 use mathlib.Core.Bool.{Bool, true, false, cond}
-use mathlib.Core.List.{List, [], _++_, append-assoc}
+use mathlib.Core.List.{List, _++_, append-assoc}
 use native.Mathlib.Omega.{arith}
 use lib.Dec.{leb}
 use lib.ListN.{length, take, drop, length-append, length-drop, take-append-drop}
-use lib.Seq.{take-take, take-add, take-append-seam, drop-append-seam, take-append-le, drop-append-le, take-at, drop-at, drop-drop, length-take-le}
+use lib.Seq.{take-take, take-add, take-append-seam, drop-append-seam, take-append-le, drop-append-le, drop-at, drop-drop, length-take-le}
 use borrow.Author.Tests.{le-leb, leb-true}
 use Rattle.types.specs.Answer.{Answer, got, refused}
 use Rattle.types.specs.Number.{part}
 use Rattle.types.specs.Read.{place, bytesIn}
 use Rattle.types.specs.Write.{put, Check, fine, against, written, output, Wrote}
-use Rattle.types.proofs.Put.{length-front, length-put}
+use Rattle.types.proofs.Put.{length-put}
 use Rattle.types.proofs.Reading.{bytes-there}
 
 pub record Holds (s : List ℕ) (at : ℕ) (bs : List ℕ) : Type 0 where

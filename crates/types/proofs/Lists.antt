@@ -1,24 +1,23 @@
 -- Lists of strings, written then read and read then written. Assumes nothing.
-use Prim.Native.Nat.{ℕ, zero, suc, _+_, _-_, _≤_, _<_}
+use Prim.Native.Nat.{ℕ, zero, suc, _+_, _-_, _≤_}
 use mathlib.Core.Path.{_≡_, refl, sym, ap, ap₂, _∙_, subst}
-use mathlib.Core.Bool.{Bool, true, false, _&&_}
+use mathlib.Core.Bool.{Bool, true, _&&_}
 use mathlib.Core.List.{List, [], _∷_, _++_}
 use native.Mathlib.Omega.{arith}
 use native.Mathlib.Nat.{add-assoc, add-zero, add-sub-cancel-left}
-use lib.Dec.{leb, eqb}
 use lib.ListN.{length, take, drop, length-append, length-drop}
 use lib.Seq.{take-at, drop-at, length-take-le}
-use borrow.Author.Tests.{le-leb, eq-eqb, leb-true}
+use borrow.Author.Tests.{le-leb}
 use Rattle.basis.specs.Bytes.{Bytes}
-use Rattle.types.specs.Answer.{Answer, got, refused, andThen}
-use Rattle.types.specs.Number.{be, part, digits}
+use Rattle.types.specs.Answer.{got, andThen}
+use Rattle.types.specs.Number.{digits}
 use Rattle.utf8.specs.Utf8.{utf8}
 use Rattle.types.specs.Read.{Place, place, Strings, strings, shortAt, stringAt, stringsAt, listed, stringListAt, bytesIn, textsIn}
-use Rattle.types.specs.Write.{Check, fine, demand, counted, textCheck, maxShort, cutBy, joined, lengthsOf, total, allShort, lengthsFit, allUtf8, stringsBytes, listBytes, listCheck}
+use Rattle.types.specs.Write.{fine, demand, counted, textCheck, maxShort, cutBy, joined, lengthsOf, lengthsFit, allUtf8, stringsBytes, listBytes, listCheck}
 use Rattle.types.proofs.BigEndian.{length-digits}
-use Rattle.types.proofs.Put.{length-counted, demanded}
+use Rattle.types.proofs.Put.{demanded}
 use Rattle.types.proofs.Reading.{then-got}
-use Rattle.types.proofs.Found.{behind, got-value, got-next, Found, number-found}
+use Rattle.types.proofs.Found.{behind, got-value, got-next, number-found}
 use Rattle.types.proofs.Holds.{Holds, holds-left, holds-right, holds-join, Stands}
 use Rattle.types.proofs.Cut.{both-true, Next, next-of, fit-goes-on, fit-none, length-cut, Writes, writes, list-apart}
 use Rattle.types.proofs.WrittenRead.{ReadsBack, TextFits, text-fits, string-back, short-back, content-back}

@@ -1,20 +1,19 @@
 -- Read, then written, for each notation: what was read may be written, and its bytes are those that were read. Assumes nothing.
-use Prim.Native.Nat.{ℕ, zero, suc, _+_, _^_, _≤_, _<_}
+use Prim.Native.Nat.{ℕ, _+_, _^_, _≤_, _<_}
 use mathlib.Core.Path.{_≡_, refl, sym, ap, ap₂, _∙_, subst}
-use mathlib.Core.Bool.{Bool, true, false}
-use mathlib.Core.List.{List, [], _∷_, _++_}
+use mathlib.Core.Bool.{true}
+use mathlib.Core.List.{List}
 use mathlib.Core.Option.{Option, none, some}
 use native.Mathlib.Omega.{arith}
 use native.Mathlib.Nat.{add-assoc}
-use lib.Dec.{leb, eqb}
-use lib.IntN.{ℤ, pos, negsuc}
-use lib.ListN.{length, length-append}
+use lib.IntN.{ℤ, negsuc}
+use lib.ListN.{length}
 use mir.Syntax.{Width, w32, w64}
 use mir.Val.{toZ, ofZ, Fits}
 use mir.ValLaws.{ofZ-toZ}
 use borrow.Author.Tests.{le-leb, eq-eqb}
 use Rattle.basis.specs.Bytes.{Bytes}
-use Rattle.types.specs.Answer.{Answer, got, refused, andThen}
+use Rattle.types.specs.Answer.{got}
 use Rattle.types.specs.Number.{be, part, digits}
 use Rattle.utf8.specs.Utf8.{utf8}
 use Rattle.types.specs.Read.{Place, place, numberAt, signedAt, byteAt, shortAt, intAt, longAt, runAt, textAt, uuidAt, natural, countAt, longText, nullableRun, shortBytesAt, stringAt, longStringAt, bytesAt, bytesIn}
@@ -23,7 +22,7 @@ use Rattle.types.proofs.BigEndian.{length-digits, digits-be, be-below, 
 use Rattle.types.proofs.Put.{length-counted, demanded}
 use Rattle.types.proofs.Reading.{bytes-there, then-got}
 use Rattle.types.proofs.Holds.{Holds, holds-part, holds-join, Stands}
-use Rattle.types.proofs.Found.{behind, got-next, got-refused, Found, number-found, signed-found, run-found, TextFound, text-found, count-found, Counted, some-counted}
+use Rattle.types.proofs.Found.{behind, got-next, got-refused, Found, number-found, signed-found, run-found, text-found, count-found, Counted, some-counted}
 
 -- ---- numbers, over the number of bytes and the width
 

@@ -1,29 +1,29 @@
 -- Written, then read, for each notation: what a writer accepted is read back, with the position that the writer answered.
 -- Assumes nothing.
-use Prim.Native.Nat.{ℕ, zero, suc, _+_, _^_, _≤_, _<_}
+use Prim.Native.Nat.{ℕ, _+_, _^_, _≤_, _<_}
 use mathlib.Core.Path.{_≡_, refl, sym, ap, ap₂, _∙_, subst}
-use mathlib.Core.Bool.{Bool, true, false, _&&_}
-use mathlib.Core.List.{List, [], _∷_, _++_}
+use mathlib.Core.Bool.{true}
+use mathlib.Core.List.{List}
 use mathlib.Core.Option.{Option, none, some}
 use native.Mathlib.Omega.{arith}
-use native.Mathlib.Nat.{add-assoc, add-zero}
+use native.Mathlib.Nat.{add-assoc}
 use lib.Dec.{leb, eqb}
-use lib.IntN.{ℤ, pos, negsuc}
-use lib.ListN.{length, length-append}
+use lib.IntN.{ℤ}
+use lib.ListN.{length}
 use mir.Syntax.{Width, w32, w64}
 use mir.Val.{toZ, ofZ, SFits}
 use mir.ValLaws.{toZ-ofZ, ofZ-fits}
 use borrow.Author.Tests.{le-leb, leb-true, eqb-true}
-use Rattle.types.specs.Answer.{Answer, got, refused, andThen}
+use Rattle.types.specs.Answer.{Answer, got, andThen}
 use Rattle.types.specs.Number.{be, part, digits}
 use Rattle.utf8.specs.Utf8.{utf8}
-use Rattle.types.specs.Read.{Place, place, Strings, strings, numberAt, signedAt, byteAt, shortAt, intAt, longAt, runAt, textAt, uuidAt, natural, countAt, longText, nullableRun, shortBytesAt, stringAt, longStringAt, bytesAt, stringsAt, listed, stringListAt, bytesIn}
-use Rattle.types.specs.Write.{Check, fine, demand, counted, countCheck, textCheck, uuidCheck, bytesBytes, bytesCheck, maxShort, maxInt, allUtf8, stringsBytes, listBytes, Wrote}
+use Rattle.types.specs.Read.{Place, place, numberAt, signedAt, byteAt, shortAt, intAt, longAt, runAt, textAt, uuidAt, natural, countAt, longText, nullableRun, shortBytesAt, stringAt, longStringAt, bytesAt, bytesIn}
+use Rattle.types.specs.Write.{Check, fine, demand, counted, countCheck, textCheck, uuidCheck, bytesBytes, bytesCheck, maxShort, maxInt, Wrote}
 use Rattle.types.proofs.BigEndian.{length-digits, be-digits-fit}
 use Rattle.types.proofs.Put.{length-counted}
 use Rattle.types.proofs.Reading.{then-got, number-read, signed-read, run-read, text-read, count-read, natural-some, natural-none}
 use Rattle.types.proofs.Holds.{Holds, holds-left, holds-right, holds-bytes, Stands, accepted}
-use Rattle.types.proofs.Cut.{both-true, demand-fine}
+use Rattle.types.proofs.Cut.{demand-fine}
 
 -- wherever bs stand, they are read as a value (which may tell where they stand), and the position behind them
 abbrev pub ReadsBack : {A : Type 0} → (List ℕ → ℕ → Answer A) → List ℕ → (ℕ → A) → Type 0

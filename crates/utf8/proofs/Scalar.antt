@@ -1,6 +1,6 @@
 -- What the table of RFC 3629, section 4, admits is exactly scalar values encoded by its section 3, one after the other.
 -- Assumes nothing.
-use Prim.Native.Nat.{ℕ, suc, _+_, _*_, _-_, _/_, _%_, _≤_, _<_}
+use Prim.Native.Nat.{ℕ, _+_, _*_, _-_, _/_, _%_, _≤_, _<_}
 use mathlib.Core.Path.{_≡_, refl, sym, ap, _∙_, subst}
 use mathlib.Core.Bool.{Bool, true, false, cond, false≢true}
 use mathlib.Core.Logic.{_⊎_, inl, inr, ⊎-elim}
@@ -9,7 +9,7 @@ use native.Mathlib.Omega.{arith}
 use native.Mathlib.Nat.{lt-of-not-le}
 use native.Mathlib.Decide.{decLe}
 use Rattle.utf8.specs.Utf8.{Range, range, tail, within, Row, rows, Want, wants, never, begin, step, after, whole, utf8}
-use Rattle.utf8.proofs.Table.{Lies, lies-within, above-within, below-within, Among, here, there, Rising, rising, begins}
+use Rattle.utf8.proofs.Table.{Lies, lies-within, above-within, below-within, Among, here, there, rising, begins}
 
 -- a scalar value and its bytes, by its size
 pub data Encodes : ℕ → List ℕ → Type 0 where

@@ -10,7 +10,7 @@ use native.Mathlib.Nat.{not-suc-le-zero}
 use borrow.Author.Tests.{le-leb, lt-leb}
 use lib.ListN.{length, drop, getD, drop-of-length-le}
 use lib.Seq.{drop-cons}
-use Rattle.utf8.specs.Utf8.{Range, range, tail, within, Row, rows, Want, wants, never, begin, step, after, whole, utf8}
+use Rattle.utf8.specs.Utf8.{Range, tail, within, Row, rows, Want, wants, never, begin, step, after, whole, utf8}
 use Rattle.utf8.specs.Waiting.{tails}
 
 -- ---- a range

@@ -1,5 +1,5 @@
 -- `types::part` meets its contract: the place lies in the bytes, or nothing is handed back. Assumes nothing.
-use mathlib.Core.Path.{_≡_, sym, ap, _∙_}
+use mathlib.Core.Path.{sym, _∙_}
 use borrow.Author.Needs.{needs}
 use native.Mathlib.Omega.{arith}
 use Rattle.types.proofs.BigEndian.{part-of}

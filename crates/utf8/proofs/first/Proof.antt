@@ -1,5 +1,5 @@
 -- `utf8::first` meets its contract: each answer is what the row asks for in which the byte lies. Assumes nothing.
-use mathlib.Core.Path.{_≡_, sym, ap, _∙_}
+use mathlib.Core.Path.{sym, ap, _∙_}
 use native.Mathlib.Omega.{arith}
 use borrow.Author.Needs.{needs}
 use Rattle.utf8.specs.Waiting.{wantOf, tails}

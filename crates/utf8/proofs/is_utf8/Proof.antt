@@ -5,7 +5,7 @@ use mathlib.Core.Path.{_≡_, refl, sym, ap, _∙_}
 use mathlib.Core.List.{[]}
 use borrow.Author.Needs.{needs}
 use native.Mathlib.Omega.{arith}
-use lib.ListN.{length, drop, getD}
+use lib.ListN.{length, drop}
 use Rattle.utf8.specs.Utf8.{Want, wants, after}
 use Rattle.utf8.specs.Waiting.{wantOf}
 use Rattle.utf8.proofs.Table.{after-next, utf8-end}

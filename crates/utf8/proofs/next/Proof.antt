@@ -1,9 +1,8 @@
 -- `utf8::next` meets its contract: the tests are those of the range that is wanted. Assumes nothing.
-use mathlib.Core.Path.{_≡_, refl, sym, ap, _∙_}
-use mathlib.Core.List.{List, _∷_}
+use mathlib.Core.Path.{sym, ap, _∙_}
 use borrow.Author.Needs.{needs}
 use native.Mathlib.Omega.{arith}
-use Rattle.utf8.specs.Utf8.{Want, wants, range, step}
+use Rattle.utf8.specs.Utf8.{wants, step}
 use Rattle.utf8.specs.Waiting.{wantOf}
 use Rattle.utf8.proofs.Table.{tail-below, tail-above, tail-fits, tails-none, tails-more}
 use Rattle.utf8.proofs.next.Statement.{statement}

@@ -1,5 +1,5 @@
 -- `types::inner::check_list` meets its contract: the counts are tested before the texts. Assumes nothing.
-use mathlib.Core.Path.{_≡_, sym, ap, _∙_}
+use mathlib.Core.Path.{sym, _∙_}
 use borrow.Author.Needs.{needs}
 use borrow.Author.Tests.{le-leb, lt-leb}
 use Rattle.types.specs.Write.{listCheck}

@@ -1,5 +1,4 @@
 -- `types::inner::put_counted` meets its contract: the bytes begin where their count ends. Assumes nothing.
-use mathlib.Core.Path.{_≡_}
 use borrow.Author.Needs.{needs}
 use native.Mathlib.Omega.{arith}
 use lib.ListN.{length}

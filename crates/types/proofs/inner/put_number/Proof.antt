@@ -1,5 +1,5 @@
 -- `types::inner::put_number` meets its contract: writing the bytes that are left gives what writing all of them would. Assumes nothing.
-use Prim.Native.Nat.{_≤_, _-_, _+_}
+use Prim.Native.Nat.{_≤_}
 use mathlib.Core.Path.{_≡_, refl, _∙_}
 use borrow.Author.Needs.{needs}
 use native.Mathlib.Nat.{le-refl}

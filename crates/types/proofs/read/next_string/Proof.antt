@@ -1,5 +1,5 @@
 -- `types::read::next_string` meets its contract: none is left, or the first of them is read. Assumes nothing.
-use mathlib.Core.Path.{_≡_, sym, ap, _∙_}
+use mathlib.Core.Path.{sym, ap, _∙_}
 use borrow.Author.Needs.{needs}
 use native.Mathlib.Omega.{arith}
 use Rattle.types.specs.Paper.{paperPart}

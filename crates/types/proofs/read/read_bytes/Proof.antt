@@ -1,8 +1,8 @@
 -- `types::read::read_bytes` meets its contract: a count, null by its sign, and behind it the bytes. Assumes nothing.
 use Prim.Native.Nat.{ℕ}
-use mathlib.Core.Path.{_≡_, sym, ap, _∙_}
+use mathlib.Core.Path.{sym, ap, _∙_}
 use borrow.Author.Needs.{needs}
-use mathlib.Core.Option.{Option, some}
+use mathlib.Core.Option.{some}
 use Rattle.types.specs.Answer.{got}
 use Rattle.types.specs.Inside.{paperCount}
 use Rattle.types.specs.Paper.{paperPart}

@@ -1,9 +1,9 @@
 -- `types::read::read_count` meets its contract: the first bit is the sign. Assumes nothing.
 use Prim.Native.Nat.{ℕ, _+_}
-use mathlib.Core.Path.{_≡_, sym, ap, _∙_}
+use mathlib.Core.Path.{sym, ap, _∙_}
 use borrow.Author.Needs.{needs}
 use native.Mathlib.Omega.{arith}
-use mathlib.Core.Option.{Option, some}
+use mathlib.Core.Option.{Option}
 use mir.Syntax.{w32}
 use mir.Val.{toZ}
 use Rattle.types.specs.Answer.{got}

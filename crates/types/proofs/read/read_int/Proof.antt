@@ -1,6 +1,6 @@
 -- `types::read::read_int` meets its contract: there is room for the bytes, whose sign is read, or there is none. Assumes nothing.
-use Prim.Native.Nat.{ℕ, _+_}
-use mathlib.Core.Path.{_≡_, sym, ap, _∙_}
+use Prim.Native.Nat.{_+_}
+use mathlib.Core.Path.{sym, ap, _∙_}
 use borrow.Author.Needs.{needs, sfits-of}
 use native.Mathlib.Omega.{arith}
 use lib.IntN.{ℤ}

@@ -1,5 +1,5 @@
 -- `types::read::read_long_string` meets its contract: a count, its sign, and behind it the text. Assumes nothing.
-use mathlib.Core.Path.{_≡_, sym, ap, _∙_}
+use mathlib.Core.Path.{sym, ap, _∙_}
 use borrow.Author.Needs.{needs}
 use Rattle.types.specs.Inside.{paperCount}
 use Rattle.types.specs.Read.{longStringAt, longText}

@@ -1,5 +1,5 @@
 -- `types::read::read_run` meets its contract: there is room for the bytes, or there is none. Assumes nothing.
-use mathlib.Core.Path.{_≡_, sym, ap, _∙_}
+use mathlib.Core.Path.{sym, _∙_}
 use borrow.Author.Needs.{needs}
 use native.Mathlib.Omega.{arith}
 use Rattle.types.proofs.Reading.{run-read, run-past}

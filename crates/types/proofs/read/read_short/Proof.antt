@@ -1,6 +1,6 @@
 -- `types::read::read_short` meets its contract: there is room for the bytes, or there is none. Assumes nothing.
 use Prim.Native.Nat.{ℕ, _+_}
-use mathlib.Core.Path.{_≡_, sym, ap, _∙_}
+use mathlib.Core.Path.{sym, ap, _∙_}
 use borrow.Author.Needs.{needs}
 use native.Mathlib.Omega.{arith}
 use Rattle.types.specs.Answer.{got}

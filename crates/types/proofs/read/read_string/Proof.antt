@@ -1,5 +1,5 @@
 -- `types::read::read_string` meets its contract: a count, and behind it the text. Assumes nothing.
-use mathlib.Core.Path.{_≡_, sym, ap, _∙_}
+use mathlib.Core.Path.{sym, ap, _∙_}
 use borrow.Author.Needs.{needs}
 use Rattle.types.specs.Paper.{paperShort}
 use Rattle.types.specs.Read.{stringAt, textAt}

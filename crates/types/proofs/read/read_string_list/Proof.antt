@@ -1,5 +1,5 @@
 -- `types::read::read_string_list` meets its contract: a count, and behind it so many strings. Assumes nothing.
-use mathlib.Core.Path.{_≡_, sym, ap, _∙_}
+use mathlib.Core.Path.{sym, ap, _∙_}
 use borrow.Author.Needs.{needs}
 use Rattle.types.specs.Inside.{paperEnd}
 use Rattle.types.specs.Paper.{paperShort}

@@ -1,5 +1,5 @@
 -- `types::read::read_text` meets its contract: the room is tested before the text. Assumes nothing.
-use mathlib.Core.Path.{_≡_, sym, ap, _∙_}
+use mathlib.Core.Path.{sym, ap, _∙_}
 use borrow.Author.Needs.{needs}
 use native.Mathlib.Omega.{arith}
 use Rattle.utf8.specs.Utf8.{utf8}

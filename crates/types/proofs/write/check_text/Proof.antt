@@ -1,5 +1,5 @@
 -- `types::write::check_text` meets its contract: the count is tested before the text. Assumes nothing.
-use mathlib.Core.Path.{_≡_, sym, ap, _∙_}
+use mathlib.Core.Path.{sym, _∙_}
 use borrow.Author.Needs.{needs}
 use borrow.Author.Tests.{le-leb, lt-leb}
 use Rattle.types.proofs.Put.{demanded, denied}

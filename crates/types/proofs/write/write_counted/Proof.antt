@@ -1,5 +1,5 @@
 -- `types::write::write_counted` meets its contract: there is room for count and bytes, or there is none. Assumes nothing.
-use mathlib.Core.Path.{_≡_, sym, _∙_}
+use mathlib.Core.Path.{sym, _∙_}
 use borrow.Author.Needs.{needs}
 use native.Mathlib.Omega.{arith}
 use Rattle.types.proofs.Put.{length-counted, wrote-all, wrote-none}

@@ -1,5 +1,5 @@
 -- `types::write::write_long` meets its contract: what is written is the bits of the number. Assumes nothing.
-use mathlib.Core.Path.{_≡_, sym, ap, _∙_}
+use mathlib.Core.Path.{ap, _∙_}
 use borrow.Author.Needs.{needs}
 use mir.Syntax.{w64}
 use mir.Val.{ofZ}

@@ -1,5 +1,5 @@
 -- `types::write::write_run` meets its contract: there is room for the bytes, or there is none. Assumes nothing.
-use mathlib.Core.Path.{_≡_, refl, sym, _∙_}
+use mathlib.Core.Path.{refl, sym, _∙_}
 use borrow.Author.Needs.{needs}
 use native.Mathlib.Omega.{arith}
 use Rattle.types.proofs.Put.{wrote-all, wrote-none}

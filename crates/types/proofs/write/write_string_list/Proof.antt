@@ -1,5 +1,5 @@
 -- `types::write::write_string_list` meets its contract: the check, then the room, and the size is that of the list. Assumes nothing.
-use mathlib.Core.Path.{_≡_, sym, ap, _∙_}
+use mathlib.Core.Path.{sym, ap, _∙_}
 use borrow.Author.Needs.{needs}
 use native.Mathlib.Omega.{arith}
 use Rattle.types.specs.Paper.{paperWritable}

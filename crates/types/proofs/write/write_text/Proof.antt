@@ -1,5 +1,5 @@
 -- `types::write::write_text` meets its contract: the check comes first. Assumes nothing.
-use mathlib.Core.Path.{_≡_, sym, ap, _∙_}
+use mathlib.Core.Path.{sym, ap, _∙_}
 use borrow.Author.Needs.{needs}
 use Rattle.types.specs.Paper.{paperWritable}
 use Rattle.types.proofs.Put.{wrote-fine, wrote-against}

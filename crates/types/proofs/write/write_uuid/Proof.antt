@@ -1,5 +1,4 @@
 -- `types::write::write_uuid` meets its contract: the count is tested before the room. Assumes nothing.
-use mathlib.Core.Path.{_≡_, sym, ap, _∙_}
 use borrow.Author.Needs.{needs}
 use borrow.Author.Tests.{eq-eqb, ne-eqb}
 use Rattle.types.proofs.Put.{demanded, denied, wrote-fine, wrote-against}
