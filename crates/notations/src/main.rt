@@ -1,0 +1,122 @@
+// Does what each line of standard input asks of the notations, and writes what came of it, a line for a line. README.md beside
+// src/ has the shapes of a line.
+use libc::STDIN_FILENO;
+use words::Number;
+
+mod reads;
+mod say;
+mod words;
+mod writes;
+
+// An operation and one word more.
+fn answer_two(line: &[u8], bytes: &mut [u8]) -> bool {
+    if words::same(words::field(line, b' ', 0), b"pairs") {
+        return reads::pairs(words::field(line, b' ', 1));
+    }
+    let Number::Value(n) = words::bytes_at(line, 1, bytes) else {
+        return false;
+    };
+    reads::text(words::field(line, b' ', 0), words::front(bytes, n))
+}
+
+// An operation, a number and one word more.
+fn answer_three(line: &[u8], bytes: &mut [u8], out: &mut [u8]) -> bool {
+    let Number::Value(a) = words::number_at(line, 1) else {
+        return false;
+    };
+    if words::same(words::field(line, b' ', 0), b"wnull") {
+        return writes::null(out, a, words::field(line, b' ', 2));
+    }
+    let Number::Value(n) = words::bytes_at(line, 2, bytes) else {
+        return false;
+    };
+    reads::read(words::field(line, b' ', 0), words::front(bytes, n), a)
+}
+
+// An operation, two numbers and one word more.
+fn answer_four(line: &[u8], bytes: &mut [u8], out: &mut [u8]) -> bool {
+    let Number::Value(a) = words::number_at(line, 1) else {
+        return false;
+    };
+    let Number::Value(b) = words::number_at(line, 2) else {
+        return false;
+    };
+    let name = words::field(line, b' ', 0);
+    if writes::number(name, out, a, b, words::field(line, b' ', 3)) {
+        return true;
+    }
+    let Number::Value(n) = words::bytes_at(line, 3, bytes) else {
+        return false;
+    };
+    if reads::within(name, words::front(bytes, n), a, b) {
+        return true;
+    }
+    writes::bytes(name, out, a, b, words::front(bytes, n))
+}
+
+// The list: an operation, two numbers, a text and its lengths.
+fn answer_five(line: &[u8], bytes: &mut [u8], out: &mut [u8], lens: &mut [usize]) -> bool {
+    let Number::Value(room) = words::number_at(line, 1) else {
+        return false;
+    };
+    let Number::Value(at) = words::number_at(line, 2) else {
+        return false;
+    };
+    let Number::Value(n) = words::bytes_at(line, 3, bytes) else {
+        return false;
+    };
+    let Number::Value(m) = words::lengths_at(line, 4, lens) else {
+        return false;
+    };
+    let name = words::field(line, b' ', 0);
+    writes::list(
+        name,
+        out,
+        room,
+        at,
+        words::front(bytes, n),
+        words::front_lengths(lens, m),
+    )
+}
+
+// Whether the line was a case.
+fn answer(line: &[u8], bytes: &mut [u8], out: &mut [u8], lens: &mut [usize]) -> bool {
+    match words::count(line, b' ') {
+        1 => answer_two(line, bytes),
+        2 => answer_three(line, bytes, out),
+        3 => answer_four(line, bytes, out),
+        4 => answer_five(line, bytes, out, lens),
+        _ => false,
+    }
+}
+
+// A line that is no case is answered too, so that every answer stands at its line.
+fn answer_line(line: &[u8], bytes: &mut [u8], out: &mut [u8], lens: &mut [usize]) {
+    if answer(line, bytes, out, lens) {
+        say::text(b"\n");
+    } else {
+        say::text(b"?\n");
+    }
+}
+
+fn answer_all(input: &[u8], bytes: &mut [u8], out: &mut [u8], lens: &mut [usize]) {
+    let mut start: usize = 0;
+    let mut i: usize = 0;
+    while i < input.len() {
+        if input[i] == b'\n' {
+            answer_line(&input[start..i], bytes, out, lens);
+            start = i + 1;
+        }
+        i += 1;
+    }
+}
+
+// The longest input; the longest list of strings and some bytes more; and one length more than a list may have.
+fn main() {
+    let mut input = [0u8; 262_144];
+    let mut bytes = [0u8; 131_080];
+    let mut out = [0u8; 131_080];
+    let mut lens = [0usize; 65_537];
+    let n = io::read_full(STDIN_FILENO, &mut input);
+    answer_all(&input[..n], &mut bytes, &mut out, &mut lens);
+}
