@@ -9,32 +9,32 @@ mod words;
 mod writes;
 
 // An operation and one word more.
-fn answer_two(line: &[u8], bytes: &mut [u8]) -> bool {
+fn answer_two(line: &[u8], items: &mut [usize], bytes: &mut [u8]) -> bool {
     if words::same(words::field(line, b' ', 0), b"pairs") {
         return reads::pairs(words::field(line, b' ', 1));
     }
-    let Number::Value(n) = words::bytes_at(line, 1, bytes) else {
+    let Number::Value(n) = words::bytes_at(line, 1, items, bytes) else {
         return false;
     };
     reads::text(words::field(line, b' ', 0), words::front(bytes, n))
 }
 
 // An operation, a number and one word more.
-fn answer_three(line: &[u8], bytes: &mut [u8], out: &mut [u8]) -> bool {
+fn answer_three(line: &[u8], items: &mut [usize], bytes: &mut [u8], out: &mut [u8]) -> bool {
     let Number::Value(a) = words::number_at(line, 1) else {
         return false;
     };
     if words::same(words::field(line, b' ', 0), b"wnull") {
         return writes::null(out, a, words::field(line, b' ', 2));
     }
-    let Number::Value(n) = words::bytes_at(line, 2, bytes) else {
+    let Number::Value(n) = words::bytes_at(line, 2, items, bytes) else {
         return false;
     };
     reads::read(words::field(line, b' ', 0), words::front(bytes, n), a)
 }
 
 // An operation, two numbers and one word more.
-fn answer_four(line: &[u8], bytes: &mut [u8], out: &mut [u8]) -> bool {
+fn answer_four(line: &[u8], items: &mut [usize], bytes: &mut [u8], out: &mut [u8]) -> bool {
     let Number::Value(a) = words::number_at(line, 1) else {
         return false;
     };
@@ -45,7 +45,7 @@ fn answer_four(line: &[u8], bytes: &mut [u8], out: &mut [u8]) -> bool {
     if writes::number(name, out, a, b, words::field(line, b' ', 3)) {
         return true;
     }
-    let Number::Value(n) = words::bytes_at(line, 3, bytes) else {
+    let Number::Value(n) = words::bytes_at(line, 3, items, bytes) else {
         return false;
     };
     if reads::within(name, words::front(bytes, n), a, b) {
@@ -55,17 +55,17 @@ fn answer_four(line: &[u8], bytes: &mut [u8], out: &mut [u8]) -> bool {
 }
 
 // The list: an operation, two numbers, a text and its lengths.
-fn answer_five(line: &[u8], bytes: &mut [u8], out: &mut [u8], lens: &mut [usize]) -> bool {
+fn answer_five(line: &[u8], items: &mut [usize], bytes: &mut [u8], out: &mut [u8]) -> bool {
     let Number::Value(room) = words::number_at(line, 1) else {
         return false;
     };
     let Number::Value(at) = words::number_at(line, 2) else {
         return false;
     };
-    let Number::Value(n) = words::bytes_at(line, 3, bytes) else {
+    let Number::Value(n) = words::bytes_at(line, 3, items, bytes) else {
         return false;
     };
-    let Number::Value(m) = words::lengths_at(line, 4, lens) else {
+    let Number::Value(m) = words::lengths_at(line, 4, items) else {
         return false;
     };
     let name = words::field(line, b' ', 0);
@@ -75,48 +75,48 @@ fn answer_five(line: &[u8], bytes: &mut [u8], out: &mut [u8], lens: &mut [usize]
         room,
         at,
         words::front(bytes, n),
-        words::front_lengths(lens, m),
+        words::front_items(items, m),
     )
 }
 
 // Whether the line was a case.
-fn answer(line: &[u8], bytes: &mut [u8], out: &mut [u8], lens: &mut [usize]) -> bool {
+fn answer(line: &[u8], items: &mut [usize], bytes: &mut [u8], out: &mut [u8]) -> bool {
     match words::count(line, b' ') {
-        1 => answer_two(line, bytes),
-        2 => answer_three(line, bytes, out),
-        3 => answer_four(line, bytes, out),
-        4 => answer_five(line, bytes, out, lens),
+        1 => answer_two(line, items, bytes),
+        2 => answer_three(line, items, bytes, out),
+        3 => answer_four(line, items, bytes, out),
+        4 => answer_five(line, items, bytes, out),
         _ => false,
     }
 }
 
 // A line that is no case is answered too, so that every answer stands at its line.
-fn answer_line(line: &[u8], bytes: &mut [u8], out: &mut [u8], lens: &mut [usize]) {
-    if answer(line, bytes, out, lens) {
+fn answer_line(line: &[u8], items: &mut [usize], bytes: &mut [u8], out: &mut [u8]) {
+    if answer(line, items, bytes, out) {
         say::text(b"\n");
     } else {
         say::text(b"?\n");
     }
 }
 
-fn answer_all(input: &[u8], bytes: &mut [u8], out: &mut [u8], lens: &mut [usize]) {
+fn answer_all(input: &[u8], items: &mut [usize], bytes: &mut [u8], out: &mut [u8]) {
     let mut start: usize = 0;
     let mut i: usize = 0;
     while i < input.len() {
         if input[i] == b'\n' {
-            answer_line(&input[start..i], bytes, out, lens);
+            answer_line(&input[start..i], items, bytes, out);
             start = i + 1;
         }
         i += 1;
     }
 }
 
-// The longest input; the longest list of strings and some bytes more; and one length more than a list may have.
+// The longest input; and the longest list of strings with some bytes more, which is more than a list may have lengths.
 fn main() {
     let mut input = [0u8; 262_144];
+    let mut items = [0usize; 131_080];
     let mut bytes = [0u8; 131_080];
     let mut out = [0u8; 131_080];
-    let mut lens = [0usize; 65_537];
     let n = io::read_full(STDIN_FILENO, &mut input);
-    answer_all(&input[..n], &mut bytes, &mut out, &mut lens);
+    answer_all(&input[..n], &mut items, &mut bytes, &mut out);
 }

@@ -85,11 +85,11 @@ pub fn front(bytes: &[u8], n: usize) -> &[u8] {
     bytes
 }
 
-pub fn front_lengths(lens: &[usize], n: usize) -> &[usize] {
-    if n <= lens.len() {
-        return &lens[0..n];
+pub fn front_items(items: &[usize], n: usize) -> &[usize] {
+    if n <= items.len() {
+        return &items[0..n];
     }
-    lens
+    items
 }
 
 // The value of a hexadecimal digit, and 16 for any other byte.
@@ -180,61 +180,46 @@ fn times(item: &[u8]) -> Number {
     }
 }
 
-// Puts a byte so often behind the bytes that are there, and answers how many there are then.
-fn repeat_byte(bytes: &mut [u8], from: usize, byte: u8, n: usize) -> Number {
-    if bytes.len() < from {
+// Puts an item so often behind those that are there, and answers how many there are then.
+fn repeat(items: &mut [usize], from: usize, item: usize, n: usize) -> Number {
+    if items.len() < from {
         return Number::Missing;
     }
-    if bytes.len() - from < n {
-        return Number::Missing;
-    }
-    let end = from + n;
-    let mut i = from;
-    while i < end {
-        bytes[i] = byte;
-        i += 1;
-    }
-    Number::Value(end)
-}
-
-fn repeat_length(lens: &mut [usize], from: usize, len: usize, n: usize) -> Number {
-    if lens.len() < from {
-        return Number::Missing;
-    }
-    if lens.len() - from < n {
+    if items.len() - from < n {
         return Number::Missing;
     }
     let end = from + n;
     let mut i = from;
     while i < end {
-        lens[i] = len;
+        items[i] = item;
         i += 1;
     }
     Number::Value(end)
 }
 
-fn take_byte(item: &[u8], bytes: &mut [u8], from: usize) -> Number {
-    let Hex::Byte(byte) = hex_byte(field(item, b'*', 0)) else {
-        return Number::Missing;
-    };
-    let Number::Value(n) = times(item) else {
-        return Number::Missing;
-    };
-    repeat_byte(bytes, from, byte, n)
+// A byte is two hexadecimal digits, a length a decimal number.
+fn item(word: &[u8], is_byte: bool) -> Number {
+    if is_byte {
+        let Hex::Byte(byte) = hex_byte(word) else {
+            return Number::Missing;
+        };
+        return Number::Value(wide(byte));
+    }
+    decimal(word)
 }
 
-fn take_length(item: &[u8], lens: &mut [usize], from: usize) -> Number {
-    let Number::Value(len) = decimal(field(item, b'*', 0)) else {
+fn take_item(word: &[u8], is_byte: bool, items: &mut [usize], from: usize) -> Number {
+    let Number::Value(x) = item(field(word, b'*', 0), is_byte) else {
         return Number::Missing;
     };
-    let Number::Value(n) = times(item) else {
+    let Number::Value(n) = times(word) else {
         return Number::Missing;
     };
-    repeat_length(lens, from, len, n)
+    repeat(items, from, x, n)
 }
 
-// Puts the bytes that a word stands for at the front, and answers how many they are.
-pub fn take_bytes(word: &[u8], bytes: &mut [u8]) -> Number {
+// Puts the items that a word stands for at the front, and answers how many they are.
+fn take_items(word: &[u8], is_byte: bool, items: &mut [usize]) -> Number {
     if same(word, b"-") {
         return Number::Value(0);
     }
@@ -243,7 +228,7 @@ pub fn take_bytes(word: &[u8], bytes: &mut [u8]) -> Number {
     let mut i: usize = 0;
     while i < word.len() {
         if word[i] == b',' {
-            let Number::Value(more) = take_byte(&word[start..i], bytes, n) else {
+            let Number::Value(more) = take_item(&word[start..i], is_byte, items, n) else {
                 return Number::Missing;
             };
             n = more;
@@ -251,28 +236,20 @@ pub fn take_bytes(word: &[u8], bytes: &mut [u8]) -> Number {
         }
         i += 1;
     }
-    take_byte(&word[start..], bytes, n)
+    take_item(&word[start..], is_byte, items, n)
 }
 
-// The same for lengths.
-pub fn take_lengths(word: &[u8], lens: &mut [usize]) -> Number {
-    if same(word, b"-") {
-        return Number::Value(0);
+// Items that are bytes, as bytes.
+fn narrow(items: &[usize], bytes: &mut [u8]) -> Number {
+    if bytes.len() < items.len() {
+        return Number::Missing;
     }
-    let mut n: usize = 0;
-    let mut start: usize = 0;
     let mut i: usize = 0;
-    while i < word.len() {
-        if word[i] == b',' {
-            let Number::Value(more) = take_length(&word[start..i], lens, n) else {
-                return Number::Missing;
-            };
-            n = more;
-            start = i + 1;
-        }
+    while i < items.len() {
+        bytes[i] = (items[i] % 256) as u8;
         i += 1;
     }
-    take_length(&word[start..], lens, n)
+    Number::Value(i)
 }
 
 // What a word of a line stands for; the operation is word 0.
@@ -280,10 +257,14 @@ pub fn number_at(line: &[u8], k: usize) -> Number {
     decimal(field(line, b' ', k))
 }
 
-pub fn bytes_at(line: &[u8], k: usize, bytes: &mut [u8]) -> Number {
-    take_bytes(field(line, b' ', k), bytes)
+// The items serve only on the way.
+pub fn bytes_at(line: &[u8], k: usize, items: &mut [usize], bytes: &mut [u8]) -> Number {
+    let Number::Value(n) = take_items(field(line, b' ', k), true, items) else {
+        return Number::Missing;
+    };
+    narrow(front_items(items, n), bytes)
 }
 
-pub fn lengths_at(line: &[u8], k: usize, lens: &mut [usize]) -> Number {
-    take_lengths(field(line, b' ', k), lens)
+pub fn lengths_at(line: &[u8], k: usize, items: &mut [usize]) -> Number {
+    take_items(field(line, b' ', k), false, items)
 }

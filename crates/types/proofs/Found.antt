@@ -17,6 +17,7 @@ use Rattle.types.specs.Answer.{Answer, got, refused, andThen}
 use Rattle.types.specs.Number.{be, part}
 use Rattle.utf8.specs.Utf8.{utf8}
 use Rattle.types.specs.Read.{Place, place, numberAt, signedAt, runAt, textAt, natural, countAt}
+use Rattle.types.specs.Write.{maxInt}
 use Rattle.types.proofs.Reading.{natural-some, natural-none}
 
 -- ---- answers
@@ -123,7 +124,7 @@ count-found s at e =
 
 -- some number of bytes is the number of the count, below 2 to the 31
 pub record Counted (x n : ℕ) : Type 0 where
-  pub small : n ≤ 2147483647
+  pub small : n ≤ maxInt
   pub value : n ≡ x
 
 pub some-counted : (x n : ℕ) → some n ≡ natural (toZ w32 x) → Counted x n

@@ -9,11 +9,11 @@ use Rattle.notations.proofs.answer_all.Statement.{statement}
 use Rattle.notations.proofs.answer_all.Tie as tie
 
 abbrev Inv-loop : tie.InvT-loop
-Inv-loop input bytes₀ out₀ lens₀ start₀ i₀ bytes out lens start i =
-    (start ≤ i) × (i ≤ length input) × (length bytes ≡ length bytes₀) × (length out ≡ length out₀) × (length lens ≡ length lens₀)
+Inv-loop input items₀ bytes₀ out₀ start₀ i₀ items bytes out start i =
+    (start ≤ i) × (i ≤ length input) × (length items ≡ length items₀) × (length bytes ≡ length bytes₀) × (length out ≡ length out₀)
 
 abbrev μ-loop : tie.MeasureT-loop
-μ-loop input bytes₀ out₀ lens₀ start₀ i₀ bytes out lens start i = length input - i
+μ-loop input items₀ bytes₀ out₀ start₀ i₀ items bytes out start i = length input - i
 
 pub answer-all-spec : {M : Type 1} → statement M
 answer-all-spec =

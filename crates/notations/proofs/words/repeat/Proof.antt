@@ -1,20 +1,20 @@
--- `notations::words::repeat_length` is safe and ends: the end was found to lie within. Assumes nothing.
+-- `notations::words::repeat` is safe and ends: the end was found to lie within. Assumes nothing.
 use Prim.Native.Nat.{_-_}
 use mathlib.Core.Path.{_≡_}
 use borrow.Author.Needs.{needs}
 use native.Mathlib.Omega.{arith}
 use lib.ListN.{length}
-use Rattle.notations.proofs.words.repeat_length.Statement.{statement}
-use Rattle.notations.proofs.words.repeat_length.Tie as tie
+use Rattle.notations.proofs.words.repeat.Statement.{statement}
+use Rattle.notations.proofs.words.repeat.Tie as tie
 
 abbrev Inv-loop : tie.InvT-loop
-Inv-loop lens₀ from len n end i₀ lens i = length lens ≡ length lens₀
+Inv-loop items₀ from item n end i₀ items i = length items ≡ length items₀
 
 abbrev μ-loop : tie.MeasureT-loop
-μ-loop lens₀ from len n end i₀ lens i = end - i
+μ-loop items₀ from item n end i₀ items i = end - i
 
-pub repeat-length-spec : {M : Type 1} → statement M
-repeat-length-spec =
+pub repeat-spec : {M : Type 1} → statement M
+repeat-spec =
     tie.close
     (tie.spec
     Inv-loop

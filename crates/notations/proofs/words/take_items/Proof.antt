@@ -1,21 +1,21 @@
--- `notations::words::take_lengths` is safe and ends: an item starts where or before it is looked at. Assumes nothing.
+-- `notations::words::take_items` is safe and ends: an item starts where or before it is looked at. Assumes nothing.
 use Prim.Native.Nat.{_≤_, _-_}
 use mathlib.Core.Logic.{⊎-elim}
 use mathlib.Core.Path.{_≡_, ap}
 use borrow.Author.Needs.{needs}
 use native.Mathlib.Omega.{arith}
 use lib.ListN.{length}
-use Rattle.notations.proofs.words.take_lengths.Statement.{statement}
-use Rattle.notations.proofs.words.take_lengths.Tie as tie
+use Rattle.notations.proofs.words.take_items.Statement.{statement}
+use Rattle.notations.proofs.words.take_items.Tie as tie
 
 abbrev Inv-loop : tie.InvT-loop
-Inv-loop word lens₀ n₀ start₀ i₀ lens n start i = (start ≤ i) × (i ≤ length word) × (length lens ≡ length lens₀)
+Inv-loop word is_byte items₀ n₀ start₀ i₀ items n start i = (start ≤ i) × (i ≤ length word) × (length items ≡ length items₀)
 
 abbrev μ-loop : tie.MeasureT-loop
-μ-loop word lens₀ n₀ start₀ i₀ lens n start i = length word - i
+μ-loop word is_byte items₀ n₀ start₀ i₀ items n start i = length word - i
 
-pub take-lengths-spec : {M : Type 1} → statement M
-take-lengths-spec =
+pub take-items-spec : {M : Type 1} → statement M
+take-items-spec =
     tie.close
     (tie.spec
     Inv-loop
