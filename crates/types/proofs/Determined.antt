@@ -4,7 +4,7 @@ use Prim.Native.Nat.{ℕ}
 use mathlib.Core.Path.{sym, ap₂, _∙_}
 use mathlib.Core.List.{List}
 use mathlib.Core.Option.{none, some}
-use mir.Syntax.{w32, w64}
+use mir.Syntax.{w16, w32, w64}
 use mir.Val.{toZ, ofZ}
 use Rattle.basis.specs.Determined.{Determined, DeterminedAs}
 use Rattle.basis.proofs.Determined.{by-equation, by-sight, by-meaning, told-apart}
@@ -15,8 +15,10 @@ use Rattle.types.specs.Paper.{placeOf, paperWritten}
 use Rattle.types.specs.declared.Written.{Written}
 use Rattle.types.proofs.Told.{byte-told, short-told, int-told, long-told, part-told, bytes-told, strings-told, walked-told, written-told}
 use Rattle.types.proofs.part.Reads as hands
+use Rattle.types.proofs.number.signed16.Reads as signs16
 use Rattle.types.proofs.number.signed32.Reads as signs32
 use Rattle.types.proofs.number.signed64.Reads as signs64
+use Rattle.types.proofs.number.bits16.Reads as bits16
 use Rattle.types.proofs.number.bits32.Reads as bits32
 use Rattle.types.proofs.number.bits64.Reads as bits64
 use Rattle.types.proofs.read.read_byte.Reads as reads-byte
@@ -47,11 +49,17 @@ use Rattle.types.proofs.write.write_string_list.Reads as writes-list
 pub part-determined : DeterminedAs (λ κs r e. r .now) hands.Post
 part-determined = by-sight (λ κs r e. r .now) (λ κs a. bytesIn (a .0 .now) (placeOf (a .1 .0)))
 
+pub signed16-determined : Determined signs16.Post
+signed16-determined = by-equation (λ κs a. toZ w16 (a .0))
+
 pub signed32-determined : Determined signs32.Post
 signed32-determined = by-equation (λ κs a. toZ w32 (a .0))
 
 pub signed64-determined : Determined signs64.Post
 signed64-determined = by-equation (λ κs a. toZ w64 (a .0))
+
+pub bits16-determined : Determined bits16.Post
+bits16-determined = by-equation (λ κs a. ofZ w16 (a .0))
 
 pub bits32-determined : Determined bits32.Post
 bits32-determined = by-equation (λ κs a. ofZ w32 (a .0))

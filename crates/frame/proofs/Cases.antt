@@ -1,0 +1,154 @@
+-- The definitions of reading, case by case: each case says what holds where it is met, and what holds says the case. Assumes nothing.
+use Prim.Native.Nat.{ℕ, _+_, _≤_, _<_}
+use mathlib.Core.Path.{_≡_, refl, sym, ap, _∙_, subst}
+use mathlib.Core.Bool.{Bool, true, false, cond}
+use mathlib.Core.List.{List}
+use mathlib.Core.Option.{Option, none, some}
+use native.Mathlib.Omega.{arith}
+use borrow.Author.Tests.{lt-ltb, le-ltb, ltb-true, ltb-false}
+use lib.Dec.{ltb}
+use lib.ListN.{length, take}
+use Rattle.types.specs.Answer.{Answer, got, refused}
+use Rattle.types.specs.Read.{Strings, strings, stringListAt}
+use Rattle.frame.specs.Header.{Header, headerOf, knownVersion, knownOpcode, hasWarnings}
+use Rattle.frame.specs.Envelope.{Front, incomplete, refuses, whole, ifWhole, declared, sized, sizeOf, Envelope, envelopeWith, afterId, warningsAt, readAs, within, inside, envelope}
+use Rattle.frame.proofs.Fronts.{not-whole, refused-not-whole, whole-value}
+
+-- ---- how long an envelope is
+
+pub data Sizes (s : List ℕ) : Front ℕ → Type 0 where
+  short : length s < 9 → Sizes s incomplete
+  negative : 9 ≤ length s → declared s ≡ none → Sizes s (refuses 8)
+  cut : {n : ℕ} → 9 ≤ length s → declared s ≡ some n → length s < 9 + n → Sizes s incomplete
+  unknown : {n : ℕ} → declared s ≡ some n → 9 + n ≤ length s → knownVersion (headerOf s .version) ≡ false → Sizes s (refuses 9)
+  fits : {n : ℕ} → declared s ≡ some n → 9 + n ≤ length s → knownVersion (headerOf s .version) ≡ true → Sizes s (whole (9 + n))
+
+module _ (s : List ℕ) where
+  from-nine : 9 ≤ length s → sizeOf s ≡ sized s (declared s)
+  unfolding sizeOf
+  from-nine h = ap (λ t. cond t incomplete (sized s (declared s))) (le-ltb (length s) 9 h)
+
+  judged : {n : ℕ} → declared s ≡ some n → 9 + n ≤ length s → sizeOf s ≡ cond (knownVersion (headerOf s .version)) (whole (9 + n)) (refuses 9)
+  unfolding sized
+  judged {n} e h =
+      let nine : 9 ≤ length s = omega arith in
+      from-nine nine
+      ∙ ap (sized s) e
+      ∙ ap (λ t. cond t incomplete (cond (knownVersion (headerOf s .version)) (whole (9 + n)) (refuses 9))) (le-ltb (length s) (9 + n) h)
+
+  pub size-is : {f : Front ℕ} → Sizes s f → sizeOf s ≡ f
+  unfolding sized sizeOf
+  size-is (short h) = ap (λ t. cond t incomplete (sized s (declared s))) (lt-ltb (length s) 9 h)
+  size-is (negative h e) = from-nine h ∙ ap (sized s) e
+  size-is (cut {n} h e l) =
+      from-nine h ∙ ap (sized s) e ∙ ap (λ t. cond t incomplete (cond (knownVersion (headerOf s .version)) (whole (9 + n)) (refuses 9))) (lt-ltb (length s) (9 + n) l)
+  size-is (unknown {n} e h v) = judged e h ∙ ap (λ t. cond t (whole (9 + n)) (refuses 9)) v
+  size-is (fits {n} e h v) = judged e h ∙ ap (λ t. cond t (whole (9 + n)) (refuses 9)) v
+
+  pub size-case : Sizes s (sizeOf s)
+  size-case = by-length (ltb (length s) 9) refl
+    where
+      met : {f : Front ℕ} → Sizes s f → Sizes s (sizeOf s)
+      met {f} c = subst (λ (x : Front ℕ). Sizes s x) (sym (size-is c)) c
+
+      by-version : (n : ℕ) → declared s ≡ some n → 9 + n ≤ length s → (t : Bool) → knownVersion (headerOf s .version) ≡ t → Sizes s (sizeOf s)
+      by-version n e h true v = met (fits e h v)
+      by-version n e h false v = met (unknown e h v)
+
+      by-end : 9 ≤ length s → (n : ℕ) → declared s ≡ some n → (t : Bool) → ltb (length s) (9 + n) ≡ t → Sizes s (sizeOf s)
+      by-end h n e true l = met (cut h e (ltb-true (length s) (9 + n) l))
+      by-end h n e false l = by-version n e (ltb-false (length s) (9 + n) l) (knownVersion (headerOf s .version)) refl
+
+      by-declared : 9 ≤ length s → (d : Option ℕ) → declared s ≡ d → Sizes s (sizeOf s)
+      by-declared h none e = met (negative h e)
+      by-declared h (some n) e = by-end h n e (ltb (length s) (9 + n)) refl
+
+      by-length : (t : Bool) → ltb (length s) 9 ≡ t → Sizes s (sizeOf s)
+      by-length true l = met (short (ltb-true (length s) 9 l))
+      by-length false l = by-declared (ltb-false (length s) 9 l) (declared s) refl
+
+-- ---- what stands in the bytes of one envelope
+
+pub data Withins (s : List ℕ) (h : Header) : Front Envelope → Type 0 where
+  opcode-unknown : knownOpcode (h .opcode) ≡ false → Withins s h (refuses 10)
+  id-cut : knownOpcode (h .opcode) ≡ true → length s < afterId h → Withins s h (refuses 11)
+  warnings-bad : {number : ℕ} → knownOpcode (h .opcode) ≡ true → afterId h ≤ length s → warningsAt s h (afterId h) ≡ refused number → Withins s h (refuses number)
+  read : {ws : Strings} {next : ℕ} → knownOpcode (h .opcode) ≡ true → afterId h ≤ length s → warningsAt s h (afterId h) ≡ got ws next
+      → Withins s h (whole (envelopeWith (length s) h ws next))
+
+module _ (s : List ℕ) (h : Header) where
+  known : knownOpcode (h .opcode) ≡ true → within s h ≡ cond (ltb (length s) (afterId h)) (refuses 11) (readAs (length s) h (warningsAt s h (afterId h)))
+  unfolding within
+  known k = ap (λ t. cond t (cond (ltb (length s) (afterId h)) (refuses 11) (readAs (length s) h (warningsAt s h (afterId h)))) (refuses 10)) k
+
+  pub id-whole : knownOpcode (h .opcode) ≡ true → afterId h ≤ length s → within s h ≡ readAs (length s) h (warningsAt s h (afterId h))
+  id-whole k l = known k ∙ ap (λ t. cond t (refuses 11) (readAs (length s) h (warningsAt s h (afterId h)))) (le-ltb (length s) (afterId h) l)
+
+  pub within-is : {f : Front Envelope} → Withins s h f → within s h ≡ f
+  unfolding within
+  within-is (opcode-unknown k) = ap (λ t. cond t (cond (ltb (length s) (afterId h)) (refuses 11) (readAs (length s) h (warningsAt s h (afterId h)))) (refuses 10)) k
+  within-is (id-cut k l) = known k ∙ ap (λ t. cond t (refuses 11) (readAs (length s) h (warningsAt s h (afterId h)))) (lt-ltb (length s) (afterId h) l)
+  within-is (warnings-bad k l e) = id-whole k l ∙ ap (readAs (length s) h) e
+  within-is (read k l e) = id-whole k l ∙ ap (readAs (length s) h) e
+
+  pub within-case : Withins s h (within s h)
+  within-case = by-opcode (knownOpcode (h .opcode)) refl
+    where
+      met : {f : Front Envelope} → Withins s h f → Withins s h (within s h)
+      met {f} c = subst (λ (x : Front Envelope). Withins s h x) (sym (within-is c)) c
+
+      by-warnings : knownOpcode (h .opcode) ≡ true → afterId h ≤ length s → (a : Answer Strings) → warningsAt s h (afterId h) ≡ a → Withins s h (within s h)
+      by-warnings k l (got ws next) e = met (read k l e)
+      by-warnings k l (refused number) e = met (warnings-bad k l e)
+
+      by-id : knownOpcode (h .opcode) ≡ true → (t : Bool) → ltb (length s) (afterId h) ≡ t → Withins s h (within s h)
+      by-id k true l = met (id-cut k (ltb-true (length s) (afterId h) l))
+      by-id k false l = by-warnings k (ltb-false (length s) (afterId h) l) (warningsAt s h (afterId h)) refl
+
+      by-opcode : (t : Bool) → knownOpcode (h .opcode) ≡ t → Withins s h (within s h)
+      by-opcode true k = by-id k (ltb (length s) (afterId h)) refl
+      by-opcode false k = met (opcode-unknown k)
+
+-- ---- the warnings
+
+module _ (s : List ℕ) (h : Header) (at : ℕ) where
+  pub warnings-there : hasWarnings h ≡ true → warningsAt s h at ≡ stringListAt s at
+  unfolding warningsAt
+  warnings-there w = ap (λ t. cond t (stringListAt s at) (got (strings 0 at) at)) w
+
+  pub warnings-none : hasWarnings h ≡ false → warningsAt s h at ≡ got (strings 0 at) at
+  unfolding warningsAt
+  warnings-none w = ap (λ t. cond t (stringListAt s at) (got (strings 0 at) at)) w
+
+-- ---- the size, and what is read
+
+-- an envelope that is there, with the number of bytes that its header declares
+pub record Sized (s : List ℕ) (n : ℕ) : Type 0 where
+  pub body : ℕ
+  pub is : 9 + body ≡ n
+  pub declares : declared s ≡ some body
+  pub room : 9 + body ≤ length s
+  pub version : knownVersion (headerOf s .version) ≡ true
+
+pub size-found : (s : List ℕ) (n : ℕ) → sizeOf s ≡ whole n → Sized s n
+size-found s n e = go (size-case s) e
+  where
+    go : {f : Front ℕ} → Sizes s f → f ≡ whole n → Sized s n
+    go (short h) e = absurd (not-whole e)
+    go (negative h d) e = absurd (refused-not-whole e)
+    go (cut h d l) e = absurd (not-whole e)
+    go (unknown d h v) e = absurd (refused-not-whole e)
+    go (fits {n = b} d h v) e = record { body = b; is = whole-value e; declares = d; room = h; version = v }
+
+module _ (s : List ℕ) where
+  pub envelope-unfinished : sizeOf s ≡ incomplete → envelope s ≡ incomplete
+  unfolding envelope
+  envelope-unfinished e = ap (λ (f : Front ℕ). ifWhole f (λ n. inside (take n s))) e
+
+  pub envelope-refused : {number : ℕ} → sizeOf s ≡ refuses number → envelope s ≡ refuses number
+  unfolding envelope
+  envelope-refused e = ap (λ (f : Front ℕ). ifWhole f (λ n. inside (take n s))) e
+
+  pub envelope-inside : {n : ℕ} → sizeOf s ≡ whole n → envelope s ≡ inside (take n s)
+  unfolding envelope
+  envelope-inside e = ap (λ (f : Front ℕ). ifWhole f (λ n. inside (take n s))) e

@@ -1,0 +1,7 @@
+-- Laws that belong to no one function.
+pub mod Fronts
+pub mod Cases
+pub mod Ends
+pub mod Capped
+pub mod Checked
+pub mod Laid

@@ -1,0 +1,30 @@
+-- `frame::write::tail_size` meets its contract: the parts one after the other. Assumes nothing.
+use Prim.Native.Nat.{ℕ, _+_}
+use mathlib.Core.Path.{ap, ap₂, _∙_}
+use native.Mathlib.Omega.{arith}
+use Rattle.frame.specs.Inside.{capped, idSize, warningsSize}
+use Rattle.frame.specs.Paper.{paperHeader}
+use Rattle.frame.proofs.Capped.{capped-most, capped-plus}
+use borrow.Author.Needs.{needs}
+use Rattle.frame.proofs.write.tail_size.Statement.{statement}
+use Rattle.frame.proofs.write.tail_size.Tie as tie
+
+pub tail-size-spec : {M : Type 1} → statement M
+tail-size-spec =
+    tie.close
+    (tie.spec
+    (λ c κs. search needs)
+    (λ c κs. search needs)
+    (λ c κs.
+    let a = c .before .before .args in
+    omega (arith, c .before .warnings-size .ensures, capped-most (warningsSize (paperHeader (a .header)) (a .text) (a .count))))
+    (λ c κs. omega (arith, c .plus .ensures, capped-most (c .before .before .warnings-size .result + c .before .id-size .result)))
+    (λ c.
+    let one = c .before in
+    let id = one .before in
+    let a = id .before .before .args in
+    let w = warningsSize (paperHeader (a .header)) (a .text) (a .count) in
+    let i = idSize (paperHeader (a .header)) (a .id) in
+    c .plus2 .ensures
+    ∙ ap (λ (k : ℕ). capped (k + a .body)) (one .plus .ensures ∙ ap₂ (λ (k j : ℕ). capped (k + j)) (id .before .warnings-size .ensures) (id .id-size .ensures) ∙ capped-plus w i)
+    ∙ capped-plus (w + i) (a .body)))

@@ -1,0 +1,93 @@
+-- What stands at the front of some bytes: docs/RULES.md, 4.8 to 4.13. Assumes nothing.
+use Prim.Native.Nat.{ℕ, _+_, _-_}
+use mathlib.Core.Bool.{Bool, cond}
+use mathlib.Core.List.{List}
+use mathlib.Core.Option.{Option, none, some}
+use lib.Dec.{ltb}
+use lib.IntN.{ℤ, pos, negℤ}
+use lib.ListN.{length, take}
+use mir.Syntax.{w32}
+use mir.Val.{toZ}
+use Rattle.types.specs.Answer.{Answer, got, refused}
+use Rattle.types.specs.Number.{be, part}
+use Rattle.types.specs.Read.{Place, place, Strings, strings, natural, stringListAt}
+use Rattle.frame.specs.Header.{Header, headerLength, idLength, headerOf, knownVersion, knownOpcode, hasId, hasWarnings}
+
+-- an envelope is not complete, or is refused with a number, or is there
+pub data Front (A : Type 0) : Type 0 where
+  incomplete : Front A
+  refuses : ℕ → Front A
+  whole : A → Front A
+
+-- what else is found of an envelope that is there
+abbrev pub ifWhole : {A B : Type 0} → Front A → (A → Front B) → Front B
+ifWhole incomplete more = incomplete
+ifWhole (refuses number) more = refuses number
+ifWhole (whole value) more = more value
+
+-- ---- how long it is: up to 9
+
+-- the declared length of the body: none where it is negative
+unfoldable pub declared : List ℕ → Option ℕ
+declared s = natural (toZ w32 (be (part s 5 4)))
+
+unfoldable pub sized : List ℕ → Option ℕ → Front ℕ
+sized s none = refuses 8
+sized s (some n) =
+    cond (ltb (length s) (headerLength + n)) incomplete
+    (cond (knownVersion (headerOf s .version)) (whole (headerLength + n))
+    (refuses 9))
+
+unfoldable pub sizeOf : List ℕ → Front ℕ
+sizeOf s = cond (ltb (length s) headerLength) incomplete (sized s (declared s))
+
+-- 4.13: the same as one number
+abbrev pub sizeNumber : Front ℕ → ℤ
+sizeNumber incomplete = pos 0
+sizeNumber (refuses number) = negℤ (pos number)
+sizeNumber (whole size) = pos size
+
+-- ---- what it says
+
+-- 4.11: places are counted from the envelope's first byte
+pub record Envelope : Type 0 where
+  pub size : ℕ
+  pub header : Header
+  pub traced : Bool
+  pub warnings : Strings
+  pub body : Place
+
+-- where the tracing id stands, and a place of no bytes where there is none
+abbrev pub idPlace : Bool → Place
+idPlace traced = place headerLength (cond traced idLength 0)
+
+-- where the body goes on behind the tracing id
+unfoldable pub afterId : Header → ℕ
+afterId h = headerLength + cond (hasId h) idLength 0
+
+-- the warnings from there on, where there are any
+unfoldable pub warningsAt : List ℕ → Header → ℕ → Answer Strings
+warningsAt s h at = cond (hasWarnings h) (stringListAt s at) (got (strings 0 at) at)
+
+-- what remains from there up to the envelope's end is the body
+abbrev pub envelopeWith : ℕ → Header → Strings → ℕ → Envelope
+envelopeWith size h warnings next = record { size = size; header = h; traced = hasId h; warnings = warnings; body = place next (size - next) }
+
+abbrev pub readAs : ℕ → Header → Answer Strings → Front Envelope
+readAs size h (got warnings next) = whole (envelopeWith size h warnings next)
+readAs size h (refused number) = refuses number
+
+-- s are the bytes of one envelope, no more and no fewer: 10, 11, then 12 or 13
+unfoldable pub within : List ℕ → Header → Front Envelope
+within s h =
+    cond (knownOpcode (h .opcode))
+    (cond (ltb (length s) (afterId h)) (refuses 11)
+    (readAs (length s) h (warningsAt s h (afterId h))))
+    (refuses 10)
+
+unfoldable pub inside : List ℕ → Front Envelope
+inside s = within s (headerOf s)
+
+-- 4.10
+unfoldable pub envelope : List ℕ → Front Envelope
+envelope s = ifWhole (sizeOf s) (λ n. inside (take n s))
