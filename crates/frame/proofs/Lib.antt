@@ -5,3 +5,7 @@ pub mod Ends
 pub mod Capped
 pub mod Checked
 pub mod Laid
+pub mod Found
+pub mod Bounds
+pub mod WrittenRead
+pub mod ReadWritten

@@ -1,7 +1,7 @@
 -- What stands at the front of some bytes: docs/RULES.md, 4.8 to 4.13. Assumes nothing.
 use Prim.Native.Nat.{ℕ, _+_, _-_}
 use mathlib.Core.Bool.{Bool, cond}
-use mathlib.Core.List.{List}
+use mathlib.Core.List.{List, []}
 use mathlib.Core.Option.{Option, none, some}
 use lib.Dec.{ltb}
 use lib.IntN.{ℤ, pos, negℤ}
@@ -10,7 +10,7 @@ use mir.Syntax.{w32}
 use mir.Val.{toZ}
 use Rattle.types.specs.Answer.{Answer, got, refused}
 use Rattle.types.specs.Number.{be, part}
-use Rattle.types.specs.Read.{Place, place, Strings, strings, natural, stringListAt}
+use Rattle.types.specs.Read.{Place, place, Strings, strings, bytesIn, natural, stringsAt, textsIn, stringListAt}
 use Rattle.frame.specs.Header.{Header, headerLength, idLength, headerOf, knownVersion, knownOpcode, hasId, hasWarnings}
 
 -- an envelope is not complete, or is refused with a number, or is there
@@ -91,3 +91,19 @@ inside s = within s (headerOf s)
 -- 4.10
 unfoldable pub envelope : List ℕ → Front Envelope
 envelope s = ifWhole (sizeOf s) (λ n. inside (take n s))
+
+-- ---- what its places hold, in bytes that begin with it
+
+unfoldable pub idIn : List ℕ → Envelope → List ℕ
+idIn s e = bytesIn s (idPlace (e .traced))
+
+unfoldable pub bodyIn : List ℕ → Envelope → List ℕ
+bodyIn s e = bytesIn s (e .body)
+
+-- the texts of its warnings
+abbrev pub textsOf : List ℕ → Answer (List Place) → List (List ℕ)
+textsOf s (got places next) = textsIn s places
+textsOf s (refused number) = []
+
+unfoldable pub warningsIn : List ℕ → Envelope → List (List ℕ)
+warningsIn s e = textsOf s (stringsAt s (e .warnings .count) (e .warnings .start))

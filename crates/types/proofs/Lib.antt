@@ -8,6 +8,7 @@ pub mod WrittenRead
 pub mod ReadWritten
 pub mod Lists
 pub mod Steady
+pub mod Refusing
 pub mod Walking
 pub mod Told
 pub mod Determined

@@ -28,7 +28,7 @@ use Rattle.types.proofs.Found.{got-refused, got-next, refused-number, b
 part-front : (s : List ℕ) (at n : ℕ) → at ≤ length s → drop at (take (at + n) s) ≡ part s at n
 part-front s at n h = ap (drop at) (take-add at n s) ∙ drop-at (take at s) (part s at n) at (length-take-le at s h)
 
-part-same : (s t : List ℕ) (at n : ℕ) → at + n ≤ length s → at + n ≤ length t → take (at + n) t ≡ take (at + n) s → part t at n ≡ part s at n
+pub part-same : (s t : List ℕ) (at n : ℕ) → at + n ≤ length s → at + n ≤ length t → take (at + n) t ≡ take (at + n) s → part t at n ≡ part s at n
 part-same s t at n h k e = sym (part-front t at n (omega arith)) ∙ ap (drop at) e ∙ part-front s at n (omega arith)
 
 part-more : (s q : List ℕ) (at n : ℕ) → at + n ≤ length s → part (s ++ q) at n ≡ part s at n

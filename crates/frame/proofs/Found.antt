@@ -1,0 +1,101 @@
+-- What a whole envelope says of the bytes that it was read from; and that only its own bytes matter. Assumes nothing.
+use Prim.Native.Nat.{ℕ, _+_, _-_, _≤_, _<_}
+use mathlib.Core.Path.{_≡_, refl, sym, ap, ap₂, _∙_, subst}
+use mathlib.Core.Bool.{true}
+use mathlib.Core.List.{List, _++_}
+use mathlib.Core.Logic.{_⊎_, inl, inr}
+use mathlib.Core.Option.{some}
+use native.Mathlib.Decide.{decLe}
+use native.Mathlib.Nat.{lt-of-not-le, le-refl}
+use native.Mathlib.Omega.{arith}
+use lib.ListN.{length, take, getD, length-append}
+use lib.Seq.{getD-take, take-take, take-append-le, length-take-le}
+use lib.IntN.{ℤ}
+use mir.Syntax.{w16, w32}
+use mir.Val.{toZ}
+use Rattle.types.specs.Answer.{got}
+use Rattle.types.specs.Number.{be, part}
+use Rattle.types.specs.Read.{Strings, natural}
+use Rattle.types.proofs.Steady.{part-same}
+use Rattle.frame.specs.Header.{Header, headerOf, knownVersion, knownOpcode}
+use Rattle.frame.specs.Envelope.{Front, incomplete, refuses, whole, declared, sizeOf, Envelope, envelopeWith, afterId, warningsAt, within, inside, envelope}
+use Rattle.frame.proofs.Fronts.{not-refused, not-whole, refused-not-whole, whole-value, refused-by}
+use Rattle.frame.proofs.Cases.{Sizes, short, negative, cut, unknown, fits, size-is, size-case, Withins, opcode-unknown, id-cut, warnings-bad, read, within-case, Sized, size-found, envelope-unfinished, envelope-refused, envelope-inside}
+
+-- ---- nine bytes make a header
+
+module _ (s t : List ℕ) (hs : 9 ≤ length s) (ht : 9 ≤ length t) (same : take 9 t ≡ take 9 s) where
+  same-byte : (i : ℕ) → i < 9 → getD t i 0 ≡ getD s i 0
+  same-byte i h = sym (getD-take 9 t i 0 h) ∙ ap (λ (l : List ℕ). getD l i 0) same ∙ getD-take 9 s i 0 h
+
+  same-part : (at n : ℕ) → at + n ≤ 9 → part t at n ≡ part s at n
+  same-part at n h =
+      part-same s t at n (omega arith) (omega arith) (sym (take-take (at + n) 9 t h) ∙ ap (take (at + n)) same ∙ take-take (at + n) 9 s h)
+
+  pub same-declared : declared t ≡ declared s
+  unfolding declared
+  same-declared = ap (λ (l : List ℕ). natural (toZ w32 (be l))) (same-part 5 4 (omega arith))
+
+  pub same-header : headerOf t ≡ headerOf s
+  unfolding headerOf
+  same-header =
+      simp (same-byte 0 (omega arith), same-byte 1 (omega arith), same-byte 4 (omega arith), same-part 2 2 (omega arith))
+
+-- of the bytes of an envelope, and of these with others behind
+module _ (s : List ℕ) (n : ℕ) (nine : 9 ≤ n) (room : n ≤ length s) where
+  length-front : length (take n s) ≡ n
+  length-front = length-take-le n s room
+
+  pub front-declared : declared (take n s) ≡ declared s
+  front-declared = same-declared s (take n s) (omega arith) (omega (arith, length-front)) (take-take 9 n s nine)
+
+  pub front-header : headerOf (take n s) ≡ headerOf s
+  front-header = same-header s (take n s) (omega arith) (omega (arith, length-front)) (take-take 9 n s nine)
+
+module _ (s q : List ℕ) (nine : 9 ≤ length s) where
+  long : 9 ≤ length (s ++ q)
+  long = let l : length (s ++ q) ≡ length s + length q = length-append s q in omega arith
+
+  pub behind-declared : declared (s ++ q) ≡ declared s
+  behind-declared = same-declared s (s ++ q) nine long (take-append-le 9 s q nine)
+
+  pub behind-header : headerOf (s ++ q) ≡ headerOf s
+  behind-header = same-header s (s ++ q) nine long (take-append-le 9 s q nine)
+
+-- ---- what was found
+
+pub record Found (s : List ℕ) (e : Envelope) : Type 0 where
+  pub sized : Sized s (e .size)
+  pub size : sizeOf s ≡ whole (e .size)
+  pub opcode : knownOpcode (headerOf s .opcode) ≡ true
+  pub id : afterId (headerOf s) ≤ e .size
+  pub next : ℕ
+  pub warnings : warningsAt (take (e .size) s) (headerOf s) (afterId (headerOf s)) ≡ got (e .warnings) next
+  pub is : e ≡ envelopeWith (e .size) (headerOf s) (e .warnings) next
+
+found-inside : (s : List ℕ) (n : ℕ) → Sized s n → sizeOf s ≡ whole n → {e : Envelope} → within (take n s) (headerOf s) ≡ whole e → Found s e
+found-inside s n z p {e} q = go (within-case (take n s) (headerOf s)) q
+  where
+    l : length (take n s) ≡ n
+    l = length-take-le n s (omega (arith, z .is, z .room))
+
+    go : {f : Front Envelope} → Withins (take n s) (headerOf s) f → f ≡ whole e → Found s e
+    go (opcode-unknown k) q = absurd (refused-not-whole q)
+    go (id-cut k h) q = absurd (refused-not-whole q)
+    go (warnings-bad k h w) q = absurd (refused-not-whole q)
+    go (read {ws = ws} {next = next} k h w) q =
+        let is : envelopeWith n (headerOf s) ws next ≡ e = ap (λ (m : ℕ). envelopeWith m (headerOf s) ws next) (sym l) ∙ whole-value q in
+        subst (λ (x : Envelope). Found s x) is
+        (record { sized = z; size = p; opcode = k; id = subst (λ (m : ℕ). afterId (headerOf s) ≤ m) l h; next = next; warnings = w; is = refl })
+
+pub found : (s : List ℕ) {e : Envelope} → envelope s ≡ whole e → Found s e
+unfolding inside
+found s {e} q = go (sizeOf s) refl
+  where
+    go : (f : Front ℕ) → sizeOf s ≡ f → Found s e
+    go incomplete p = absurd (not-whole (sym (envelope-unfinished s p) ∙ q))
+    go (refuses number) p = absurd (refused-not-whole (sym (envelope-refused s p) ∙ q))
+    go (whole n) p =
+        let z : Sized s n = size-found s n p in
+        found-inside s n z p
+        (sym (ap (within (take n s)) (front-header s n (omega (arith, z .is)) (omega (arith, z .is, z .room)))) ∙ sym (envelope-inside s p) ∙ q)
