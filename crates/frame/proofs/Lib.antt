@@ -9,3 +9,6 @@ pub mod Found
 pub mod Bounds
 pub mod WrittenRead
 pub mod ReadWritten
+pub mod Told
+pub mod Determined
+pub mod Examples

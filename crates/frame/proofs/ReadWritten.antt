@@ -14,20 +14,21 @@ use mir.Syntax.{w16}
 use mir.Val.{toZ, ofZ}
 use mir.ValLaws.{ofZ-toZ}
 use Rattle.basis.specs.Bytes.{Bytes}
-use Rattle.types.specs.Answer.{Answer, got}
+use Rattle.types.specs.Answer.{Answer, got, refused}
 use Rattle.types.specs.Number.{be, part, digits}
 use Rattle.types.specs.Read.{Place, place, Strings, strings, bytesIn, stringsAt, textsIn, stringListAt}
-use Rattle.types.specs.Write.{Check, fine, demand, joined, lengthsOf, cutBy, listBytes, listCheck}
+use Rattle.types.specs.Write.{Check, fine, joined, lengthsOf, listBytes, listCheck, put, written, output, Wrote}
 use Rattle.types.proofs.BigEndian.{digits-be, be-below, length-part, bytes-part, length-digits}
 use Rattle.types.proofs.Put.{demanded}
 use Rattle.types.proofs.Found.{some-counted, got-value, got-next}
-use Rattle.types.proofs.Holds.{Holds, holds-part, holds-join, Stands}
+use Rattle.types.proofs.Holds.{Holds, holds-part, holds-join, holds-put, Stands}
 use Rattle.types.proofs.Lists.{ListRead, list-forth, cut-joined}
 use Rattle.types.proofs.Reading.{bytes-there}
 use Rattle.types.proofs.Steady.{steady-string-list, appended}
 use Rattle.frame.specs.Header.{Header, headerOf, flag, hasId, hasWarnings, knownVersion, knownOpcode}
 use Rattle.frame.specs.Envelope.{Front, whole, declared, Envelope, envelopeWith, idPlace, afterId, warningsAt, envelope, idIn, bodyIn, textsOf, warningsIn}
 use Rattle.frame.specs.Write.{Content, content, idPart, warningsPart, tailBytes, headerBytes, envelopeBytes, maxBody, maxFlags, idFits, warningFits, flagsFit, headFits, warningsCheck, envelopeCheck}
+use Rattle.frame.proofs.Bounds.{within-bytes}
 use Rattle.frame.proofs.Cases.{Sized, warnings-there, warnings-none}
 use Rattle.frame.proofs.Checked.{id-there, id-none, list-there, list-none, check-there, check-none, tail-length}
 use Rattle.frame.proofs.Ends.{warnings-end}
@@ -85,3 +86,244 @@ module _ (s : List ℕ) (b : Bytes s) (nine : 9 ≤ length s) (even : getD s 1 0
       ap₂ (λ (x y : ℕ). x ∷ y ∷ (digits 2 (ofZ w16 (headerOf s .stream)) ++ (getD s 4 0 ∷ digits 4 n))) first-forth f
       ∙ ap₂ (λ (x y : List ℕ). getD s 0 0 ∷ getD s 1 0 ∷ (x ++ (getD s 4 0 ∷ y))) stream-forth (length-forth n e)
       ∙ sym (nine-apart s nine)
+
+-- ---- the parts
+
+-- the bytes of a place that lies within
+place-bytes : (s : List ℕ) (at n : ℕ) → at + n ≤ length s → (length (bytesIn s (place at n)) ≡ n) × Holds s at (bytesIn s (place at n))
+place-bytes s at n h =
+    let e : bytesIn s (place at n) ≡ part s at n = bytes-there n s at (le-leb (at + n) (length s) h) in
+    (ap length e ∙ length-part s at n h, subst (λ (l : List ℕ). Holds s at l) (sym e) (holds-part s at n h))
+
+none-there : (s : List ℕ) (at : ℕ) → at ≤ length s → Holds s at []
+none-there s at h = record { room = omega (arith, add-zero at); is = refl }
+
+-- a tracing id
+module _ (s : List ℕ) (h : Header) (room : afterId h ≤ length s) where
+  record Ided : Type 0 where
+    same : idPart h (bytesIn s (idPlace (hasId h))) ≡ bytesIn s (idPlace (hasId h))
+    holds : Holds s 9 (bytesIn s (idPlace (hasId h)))
+    start : 9 + length (bytesIn s (idPlace (hasId h))) ≡ afterId h
+    fits : idFits h (length (bytesIn s (idPlace (hasId h)))) ≡ true
+
+  id-forth : Ided
+  unfolding afterId
+  id-forth = go (hasId h) refl
+    where
+      nothing : (l : List ℕ) → length l ≡ 0 → l ≡ []
+      nothing [] e = refl
+      nothing (x ∷ l) e = let f : ⊥ = omega arith in absurd f
+
+      go : (t : Bool) → hasId h ≡ t → Ided
+      go true e =
+          let r : 9 + 16 ≤ length s = subst (λ (t : Bool). 9 + cond t 16 0 ≤ length s) e room in
+          let p = place-bytes s 9 16 r in
+          let q : idPlace (hasId h) ≡ place 9 16 = ap idPlace e in
+          let l : length (bytesIn s (idPlace (hasId h))) ≡ 16 = ap (λ (x : Place). length (bytesIn s x)) q ∙ p .0 in
+          record {
+            same = id-there h _ e;
+            holds = subst (λ (x : Place). Holds s 9 (bytesIn s x)) (sym q) (p .1);
+            start = ap (λ (k : ℕ). 9 + k) l ∙ sym (ap (λ (t : Bool). 9 + cond t 16 0) e);
+            fits = ap (λ (t : Bool). cond t (eqb (length (bytesIn s (idPlace (hasId h)))) 16) true) e ∙ eq-eqb (length (bytesIn s (idPlace (hasId h)))) 16 l;
+          }
+      go false e =
+          let r : 9 + 0 ≤ length s = subst (λ (t : Bool). 9 + cond t 16 0 ≤ length s) e room in
+          let p = place-bytes s 9 0 r in
+          let q : idPlace (hasId h) ≡ place 9 0 = ap idPlace e in
+          let l : length (bytesIn s (idPlace (hasId h))) ≡ 0 = ap (λ (x : Place). length (bytesIn s x)) q ∙ p .0 in
+          record {
+            same = id-none h _ e ∙ sym (nothing _ l);
+            holds = subst (λ (x : Place). Holds s 9 (bytesIn s x)) (sym q) (p .1);
+            start = ap (λ (k : ℕ). 9 + k) l ∙ sym (ap (λ (t : Bool). 9 + cond t 16 0) e);
+            fits = ap (λ (t : Bool). cond t (eqb (length (bytesIn s (idPlace (hasId h)))) 16) true) e;
+          }
+
+-- warnings, with the texts that they were read as
+module _ (s : List ℕ) (b : Bytes s) (h : Header) (at : ℕ) (room : at ≤ length s) {ws : Strings} {next : ℕ} (e : warningsAt s h at ≡ got ws next) where
+  abbrev texts : List (List ℕ)
+  texts = textsOf s (stringsAt s (ws .count) (ws .start))
+
+  record Warned : Type 0 where
+    holds : Holds s at (warningsPart h (joined texts) (lengthsOf texts))
+    end : next ≡ at + length (warningsPart h (joined texts) (lengthsOf texts))
+    fits : warningsCheck h (joined texts) (lengthsOf texts) ≡ fine
+
+  warnings-forth : Warned
+  warnings-forth = go (hasWarnings h) refl
+    where
+      go : (t : Bool) → hasWarnings h ≡ t → Warned
+      go true w =
+          let r : ListRead s at (ws .count) (ws .start) next = list-forth s b at (sym (warnings-there s h at w) ∙ e) in
+          let same : texts ≡ textsIn s (r .places) = ap (textsOf s) (r .met) in
+          let st : Stands (listCheck (joined texts) (lengthsOf texts)) at (listBytes texts) s next =
+          subst (λ (ts : List (List ℕ)). Stands (listCheck (joined ts) (lengthsOf ts)) at (listBytes ts) s next) (sym same) (r .stands)
+          in
+          let is : warningsPart h (joined texts) (lengthsOf texts) ≡ listBytes texts =
+          list-there h (joined texts) (lengthsOf texts) w ∙ ap listBytes (cut-joined texts)
+          in
+          record {
+            holds = subst (λ (l : List ℕ). Holds s at l) (sym is) (st .holds);
+            end = st .end ∙ ap (λ (l : List ℕ). at + length l) (sym is);
+            fits = check-there h (joined texts) (lengthsOf texts) w ∙ st .nothing;
+          }
+      go false w =
+          let is : warningsPart h (joined texts) (lengthsOf texts) ≡ [] = list-none h (joined texts) (lengthsOf texts) w in
+          record {
+            holds = subst (λ (l : List ℕ). Holds s at l) (sym is) (none-there s at room);
+            end = sym (got-next (sym (warnings-none s h at w) ∙ e)) ∙ sym (ap (λ (l : List ℕ). at + length l) is ∙ add-zero at);
+            fits = check-none h (joined texts) (lengthsOf texts) w;
+          }
+
+-- ---- the whole
+
+-- what the writer is given says that nothing speaks against it, and its bytes are those of the envelope
+pub record WrittenAgain (s : List ℕ) (e : Envelope) : Type 0 where
+  pub check : envelopeCheck (e .header) (contentOf s e) ≡ fine
+  pub bytes : envelopeBytes (e .header) (contentOf s e) ≡ take (e .size) s
+
+module _ (s : List ℕ) (b : Bytes s) {e : Envelope} (q : envelope s ≡ whole e) where
+  met : Found s e
+  met = found s q
+
+  abbrev h : Header
+  h = headerOf s
+
+  abbrev n : ℕ
+  n = e .size
+
+  nine : 9 ≤ n
+  nine = omega (arith, met .sized .is)
+
+  room : n ≤ length s
+  room = omega (arith, met .sized .is, met .sized .room)
+
+  id-room : afterId h ≤ length s
+  id-room = omega (arith, met .id, room)
+
+  -- the warnings are read as well with all that stands behind
+  warnings-here : warningsAt s h (afterId h) ≡ got (e .warnings) (met .next)
+  warnings-here = go (hasWarnings h) refl
+    where
+      go : (t : Bool) → hasWarnings h ≡ t → warningsAt s h (afterId h) ≡ got (e .warnings) (met .next)
+      go true w =
+          warnings-there s h (afterId h) w
+          ∙ ap (λ (l : List ℕ). stringListAt l (afterId h)) (sym (take-append-drop n s))
+          ∙ appended stringListAt steady-string-list (take n s) (afterId h) (sym (warnings-there (take n s) h (afterId h) w) ∙ met .warnings) (drop n s)
+      go false w = warnings-none s h (afterId h) w ∙ sym (warnings-none (take n s) h (afterId h) w) ∙ met .warnings
+
+  end-room : met .next ≤ n
+  end-room =
+      let l : length (take n s) ≡ n = length-take-le n s room in
+      subst (λ (k : ℕ). met .next ≤ k) l (warnings-end (take n s) h (afterId h) (subst (λ (k : ℕ). afterId h ≤ k) (sym l) (met .id)) (met .warnings))
+
+  abbrev texts-here : List (List ℕ)
+  texts-here = textsOf s (stringsAt s (e .warnings .count) (e .warnings .start))
+
+  abbrev id-here : List ℕ
+  id-here = bytesIn s (idPlace (hasId h))
+
+  abbrev body-here : List ℕ
+  body-here = bytesIn s (place (met .next) (n - met .next))
+
+  abbrev given : Content
+  given = content id-here (joined texts-here) (lengthsOf texts-here) body-here
+
+  ided : Ided s h id-room
+  ided = id-forth s h id-room
+
+  warned : Warned s b h (afterId h) id-room warnings-here
+  warned = warnings-forth s b h (afterId h) id-room warnings-here
+
+  bodied : (length body-here ≡ n - met .next) × Holds s (met .next) body-here
+  bodied = place-bytes s (met .next) (n - met .next) (omega (arith, end-room, room))
+
+  id-ends : 9 + length (idPart h id-here) ≡ afterId h
+  id-ends = ap (λ (l : List ℕ). 9 + length l) (ided .same) ∙ ided .start
+
+  tail-is : 9 + length (tailBytes h given) ≡ n
+  tail-is = omega (arith, tail-length h given, id-ends, warned .end, bodied .0, end-room)
+
+  tail-holds : Holds s 9 (tailBytes h given)
+  unfolding tailBytes
+  tail-holds =
+      let W : List ℕ = warningsPart h (joined texts-here) (lengthsOf texts-here) in
+      let rest : Holds s (afterId h) (W ++ body-here) =
+      holds-join s (afterId h) W body-here (warned .holds) (subst (λ (k : ℕ). Holds s k body-here) (warned .end) (bodied .1))
+      in
+      holds-join s 9 (idPart h id-here) (W ++ body-here) (subst (λ (l : List ℕ). Holds s 9 l) (sym (ided .same)) (ided .holds))
+      (subst (λ (k : ℕ). Holds s k (W ++ body-here)) (sym id-ends) rest)
+
+  module _ (p : Premises s e) where
+    declared-is : declared s ≡ some (length (tailBytes h given))
+    declared-is =
+        let m : met .sized .body ≡ length (tailBytes h given) = omega (arith, met .sized .is, tail-is) in
+        met .sized .declares ∙ ap some m
+
+    header-is : headerBytes h (length (tailBytes h given)) ≡ take 9 s
+    header-is = header-forth s b (omega (arith, nine, room)) (p .even) (p .low) (length (tailBytes h given)) declared-is
+
+    all-holds : Holds s 0 (envelopeBytes h given)
+    unfolding envelopeBytes
+    all-holds =
+        let H : List ℕ = headerBytes h (length (tailBytes h given)) in
+        let there : Holds s 0 H = subst (λ (l : List ℕ). Holds s 0 l) (sym header-is) (holds-part s 0 9 (omega (arith, nine, room))) in
+        let at : 0 + length H ≡ 9 = zero-add (length H) ∙ header-length h (length (tailBytes h given)) in
+        holds-join s 0 H (tailBytes h given) there (subst (λ (k : ℕ). Holds s k (tailBytes h given)) (sym at) tail-holds)
+
+    bytes-forth : envelopeBytes h given ≡ take n s
+    bytes-forth = sym (all-holds .is) ∙ ap (λ (k : ℕ). take k s) (envelope-length h given ∙ tail-is)
+
+    flags-low : headerOf s .flags ≤ maxFlags
+    unfolding headerOf
+    flags-low = omega arith
+
+    flag-kept : flag 8 (headerOf s .flags) ≡ flag 8 (getD s 1 0)
+    unfolding headerOf
+    flag-kept = let k : getD s 1 0 % 32 / 8 % 2 ≡ getD s 1 0 / 8 % 2 = omega arith in ap (λ (x : ℕ). eqb x 1) k
+
+    warning-forth : warningFits h ≡ true
+    warning-forth = go (flag 8 (h .flags)) refl
+      where
+        go : (t : Bool) → flag 8 (h .flags) ≡ t → cond (flag 8 (h .flags)) (h .response) true ≡ true
+        go true w =
+            ap (λ (t : Bool). cond t (h .response) true) w ∙ sym (ap (λ (x : Envelope). x .header .response) (met .is)) ∙ p .response (sym flag-kept ∙ w)
+        go false w = ap (λ (t : Bool). cond t (h .response) true) w
+
+    check-forth : envelopeCheck h given ≡ fine
+    unfolding envelopeCheck headFits flagsFit
+    check-forth =
+        demanded 15 _
+        (ap₂ (λ (t u : Bool). t && (u && flagsFit h (length id-here))) (met .sized .version) (met .opcode)
+        ∙ ap₂ (λ (t u : Bool). t && (u && warningFits h)) (le-leb (h .flags) maxFlags flags-low) (ided .fits)
+        ∙ warning-forth)
+        ∙ demanded 15 _ (le-leb (length (tailBytes h given)) maxBody (omega (arith, tail-is, p .small)))
+        ∙ warned .fits
+
+-- ---- read, then written
+
+pub read-forth : (s : List ℕ) → Bytes s → {e : Envelope} → envelope s ≡ whole e → Premises s e → WrittenAgain s e
+unfolding contentOf idIn bodyIn warningsIn
+read-forth s b {e} q p =
+    subst (λ (x : Envelope). WrittenAgain s x) (sym (met s b q .is)) (record { check = check-forth s b q p; bytes = bytes-forth s b q p })
+
+-- so the writer, where there is room, leaves the bytes that were read
+pub read-writes : (s : List ℕ) → Bytes s → {e : Envelope} → envelope s ≡ whole e → Premises s e
+    → (out : List ℕ) → e .size ≤ length out → {answer : Answer Unit} {left : List ℕ}
+    → Wrote (envelopeCheck (e .header) (contentOf s e)) out 0 (envelopeBytes (e .header) (contentOf s e)) answer left
+    → (answer ≡ got tt (e .size)) × (take (e .size) left ≡ take (e .size) s)
+read-writes s b {e} q p out room w =
+    let a : WrittenAgain s e = read-forth s b q p in
+    let bs : List ℕ = envelopeBytes (e .header) (contentOf s e) in
+    let l : length bs ≡ e .size = ap length (a .bytes) ∙ length-take-le (e .size) s (within-bytes s q) in
+    let k : 0 + length bs ≤ length out = omega (arith, zero-add (length bs)) in
+    let t : leb (0 + length bs) (length out) ≡ true = le-leb (0 + length bs) (length out) k in
+    let here : Holds (put out 0 bs) 0 bs = holds-put out 0 bs k in (
+      w .says
+          ∙ ap (λ (x : Check). written x out 0 bs) (a .check)
+          ∙ ap (λ (x : Bool). cond x (got (tt {0}) (0 + length bs)) (refused 14)) t
+          ∙ ap (got (tt {0})) (zero-add (length bs) ∙ l),
+      ap (take (e .size)) (w .leaves ∙ ap (λ (x : Check). output x out 0 bs) (a .check) ∙ ap (λ (x : Bool). cond x (put out 0 bs) out) t)
+          ∙ ap (λ (m : ℕ). take m (put out 0 bs)) (sym l)
+          ∙ here .is
+          ∙ a .bytes,
+    )

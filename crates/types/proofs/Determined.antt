@@ -105,10 +105,10 @@ next-string-determined = by-meaning walked-told (λ κs a. stepAt (a .0 .now) (a
 -- ---- writers
 
 -- the answer, and what the output, which is lent first, then holds
-abbrev Outcome : Type 0
+abbrev pub Outcome : Type 0
 Outcome = Written × List ℕ
 
-by-wrote {ℓ} :
+pub by-wrote {ℓ} :
     {Lifetimes : Type ℓ} {Arguments Exit : Lifetimes → Type 0} (left : (κs : Lifetimes) → Exit κs → List ℕ)
     (check : (κs : Lifetimes) → Arguments κs → Check) (out : (κs : Lifetimes) → Arguments κs → List ℕ)
     (at : (κs : Lifetimes) → Arguments κs → ℕ) (bs : (κs : Lifetimes) → Arguments κs → List ℕ)
