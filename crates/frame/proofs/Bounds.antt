@@ -3,22 +3,21 @@ use Prim.Native.Nat.{ℕ, _+_, _-_, _≤_, _<_}
 use mathlib.Core.Path.{_≡_, refl, sym, ap, _∙_, subst}
 use mathlib.Core.Bool.{Bool, true, false, cond}
 use mathlib.Core.List.{List, _++_}
-use mathlib.Core.Logic.{_⊎_, inl, inr, ⊎-elim}
+use mathlib.Core.Logic.{_⊎_, inl, inr}
 use native.Mathlib.Decide.{decLe}
 use native.Mathlib.Nat.{lt-of-not-le, le-refl}
 use native.Mathlib.Omega.{arith}
 use lib.ListN.{length, take, length-append}
 use lib.Seq.{take-take, take-append-le, length-take-le}
 use Rattle.types.specs.Answer.{got, refused}
-use Rattle.types.specs.Read.{Place, Strings, strings, stringListAt}
+use Rattle.types.specs.Read.{strings, stringListAt}
 use Rattle.types.proofs.Found.{got-refused}
 use Rattle.types.proofs.Refusing.{OfTexts, list-refused}
 use Rattle.frame.specs.Header.{Header, headerOf, knownVersion, hasWarnings}
-use Rattle.frame.specs.Envelope.{Front, incomplete, refuses, whole, declared, sizeOf, Envelope, afterId, warningsAt, within, inside, envelope}
-use Rattle.frame.proofs.Fronts.{not-refused, not-whole, refused-not-whole, whole-value}
+use Rattle.frame.specs.Envelope.{Front, incomplete, refuses, whole, sizeOf, Envelope, afterId, warningsAt, within, inside, envelope}
 use Rattle.frame.proofs.Cases.{Sizes, short, negative, cut, unknown, fits, size-is, size-case, Withins, opcode-unknown, id-cut, warnings-bad, read, within-case, Sized, size-found, envelope-unfinished, envelope-refused, envelope-inside}
 use Rattle.frame.proofs.Ends.{warnings-end}
-use Rattle.frame.proofs.Found.{front-declared, front-header, behind-declared, behind-header, Found, found}
+use Rattle.frame.proofs.Found.{front-declared, front-header, behind-declared, behind-header, found}
 
 -- ---- how long a whole envelope is
 
@@ -100,9 +99,6 @@ nothing-behind s q there = go (size-case s) refl
 -- ---- its own bytes
 
 module _ (s : List ℕ) {e : Envelope} (q : envelope s ≡ whole e) where
-  same-size : (k : ℕ) → 9 ≤ k → k ≤ length s → declared (take k s) ≡ declared s
-  same-size k nine room = front-declared s k nine room
-
   -- they are enough
   pub alone : envelope (take (e .size) s) ≡ whole e
   alone =

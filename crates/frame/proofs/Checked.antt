@@ -1,17 +1,17 @@
 -- What speaks against writing an envelope, as the code finds it: by the lengths of what is given. Assumes nothing.
-use Prim.Native.Nat.{ℕ, _+_, _*_, _≤_, _<_}
-use mathlib.Core.Path.{_≡_, refl, sym, ap, ap₂, _∙_}
-use mathlib.Core.Bool.{Bool, true, false, cond, _&&_}
+use Prim.Native.Nat.{ℕ, _+_, _≤_, _<_}
+use mathlib.Core.Path.{_≡_, refl, sym, ap, _∙_}
+use mathlib.Core.Bool.{Bool, true, false, cond}
 use mathlib.Core.List.{List, []}
 use mathlib.Core.Logic.{_⊎_, inl, inr, ⊎-elim}
 use native.Mathlib.Omega.{arith}
-use borrow.Author.Tests.{le-leb, lt-leb, leb-true, eqb-true}
-use lib.Dec.{leb, eqb}
+use borrow.Author.Tests.{le-leb, lt-leb, leb-true}
+use lib.Dec.{leb}
 use lib.ListN.{length, length-append}
-use Rattle.types.specs.Write.{Check, fine, against, demand, cutBy, listBytes, lengthsFit, allUtf8, listCheck, maxShort}
+use Rattle.types.specs.Write.{fine, against, demand, cutBy, listBytes, lengthsFit, listCheck, maxShort}
 use Rattle.types.proofs.Put.{demanded, denied}
 use Rattle.types.proofs.Cut.{both-true, demand-fine, list-length}
-use Rattle.frame.specs.Header.{Header, knownVersion, knownOpcode, flag, hasId, hasWarnings}
+use Rattle.frame.specs.Header.{Header, knownVersion, knownOpcode, hasId, hasWarnings}
 use Rattle.frame.specs.Write.{Content, idPart, warningsPart, tailBytes, maxFlags, maxBody, idFits, warningFits, flagsFit, headFits, warningsCheck, envelopeCheck}
 use Rattle.frame.specs.Inside.{idSize, warningsSize, tailSize, Planned}
 

@@ -2,7 +2,6 @@
 -- Assumes nothing.
 use Rattle.basis.specs.Determined.{Determined, DeterminedAs}
 use Rattle.basis.proofs.Determined.{by-equation, by-sight, by-meaning}
-use Rattle.types.specs.Paper.{paperWalked}
 use Rattle.types.specs.Read.{bytesIn, stepAt}
 use Rattle.types.proofs.Determined.{Outcome, by-wrote}
 use Rattle.types.proofs.Told.{walked-told}

@@ -1,10 +1,10 @@
 -- Where the parts of an envelope end: within it. Assumes nothing.
 use Prim.Native.Nat.{ℕ, _≤_}
-use mathlib.Core.Path.{_≡_, refl, ap, sym, _∙_, subst}
+use mathlib.Core.Path.{_≡_, subst}
 use mathlib.Core.Bool.{Bool, true, false, cond}
 use mathlib.Core.List.{List}
 use lib.ListN.{length}
-use Rattle.types.specs.Answer.{Answer, got}
+use Rattle.types.specs.Answer.{got}
 use Rattle.types.specs.Read.{Strings, strings, stringListAt}
 use Rattle.types.proofs.Found.{got-next}
 use Rattle.types.proofs.Steady.{steady-string-list}

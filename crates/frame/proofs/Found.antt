@@ -1,26 +1,24 @@
 -- What a whole envelope says of the bytes that it was read from; and that only its own bytes matter. Assumes nothing.
 use Prim.Native.Nat.{ℕ, _+_, _-_, _≤_, _<_}
-use mathlib.Core.Path.{_≡_, refl, sym, ap, ap₂, _∙_, subst}
-use mathlib.Core.Bool.{true}
-use mathlib.Core.List.{List, _++_}
-use mathlib.Core.Logic.{_⊎_, inl, inr}
-use mathlib.Core.Option.{some}
-use native.Mathlib.Decide.{decLe}
-use native.Mathlib.Nat.{lt-of-not-le, le-refl}
+use mathlib.Core.Path.{_≡_, refl, sym, ap, _∙_, subst}
+use mathlib.Core.Bool.{Bool, true, false}
+use mathlib.Core.List.{List, [], _++_}
 use native.Mathlib.Omega.{arith}
-use lib.ListN.{length, take, getD, length-append}
+use lib.ListN.{length, take, drop, getD, length-append, take-append-drop}
 use lib.Seq.{getD-take, take-take, take-append-le, length-take-le}
-use lib.IntN.{ℤ}
-use mir.Syntax.{w16, w32}
+use mir.Syntax.{w32}
 use mir.Val.{toZ}
 use Rattle.types.specs.Answer.{got}
 use Rattle.types.specs.Number.{be, part}
-use Rattle.types.specs.Read.{Strings, natural}
-use Rattle.types.proofs.Steady.{part-same}
-use Rattle.frame.specs.Header.{Header, headerOf, knownVersion, knownOpcode}
-use Rattle.frame.specs.Envelope.{Front, incomplete, refuses, whole, declared, sizeOf, Envelope, envelopeWith, afterId, warningsAt, within, inside, envelope}
-use Rattle.frame.proofs.Fronts.{not-refused, not-whole, refused-not-whole, whole-value, refused-by}
-use Rattle.frame.proofs.Cases.{Sizes, short, negative, cut, unknown, fits, size-is, size-case, Withins, opcode-unknown, id-cut, warnings-bad, read, within-case, Sized, size-found, envelope-unfinished, envelope-refused, envelope-inside}
+use Rattle.types.specs.Along.{Walks}
+use Rattle.types.specs.Read.{Place, Strings, strings, natural, stringsAt, textsIn, stringListAt}
+use Rattle.types.proofs.Found.{got-value}
+use Rattle.types.proofs.Steady.{part-same, appended, steady-string-list}
+use Rattle.types.proofs.Walking.{walk-read, list-strings}
+use Rattle.frame.specs.Header.{headerOf, knownOpcode, hasWarnings}
+use Rattle.frame.specs.Envelope.{Front, incomplete, refuses, whole, declared, sizeOf, Envelope, envelopeWith, afterId, warningsAt, within, inside, envelope, textsOf, warningsIn}
+use Rattle.frame.proofs.Fronts.{not-whole, refused-not-whole, whole-value}
+use Rattle.frame.proofs.Cases.{Withins, opcode-unknown, id-cut, warnings-bad, read, within-case, Sized, size-found, envelope-unfinished, envelope-refused, envelope-inside, warnings-there, warnings-none}
 
 -- ---- nine bytes make a header
 
@@ -99,3 +97,50 @@ found s {e} q = go (sizeOf s) refl
         let z : Sized s n = size-found s n p in
         found-inside s n z p
         (sym (ap (within (take n s)) (front-header s n (omega (arith, z .is)) (omega (arith, z .is, z .room)))) ∙ sym (envelope-inside s p) ∙ q)
+
+-- ---- the warnings
+
+none-read : (s : List ℕ) (at : ℕ) → stringsAt s 0 at ≡ got [] at
+unfolding stringsAt
+none-read s at = refl
+
+-- they are read as well with all that stands behind the envelope
+pub warnings-here : (s : List ℕ) {e : Envelope} (f : Found s e) → warningsAt s (headerOf s) (afterId (headerOf s)) ≡ got (e .warnings) (f .next)
+warnings-here s {e} f = go (hasWarnings (headerOf s)) refl
+  where
+    go : (t : Bool) → hasWarnings (headerOf s) ≡ t → warningsAt s (headerOf s) (afterId (headerOf s)) ≡ got (e .warnings) (f .next)
+    go true w =
+        warnings-there s (headerOf s) (afterId (headerOf s)) w
+        ∙ ap (λ (l : List ℕ). stringListAt l (afterId (headerOf s))) (sym (take-append-drop (e .size) s))
+        ∙ appended stringListAt steady-string-list (take (e .size) s) (afterId (headerOf s))
+        (sym (warnings-there (take (e .size) s) (headerOf s) (afterId (headerOf s)) w) ∙ f .warnings) (drop (e .size) s)
+    go false w =
+        warnings-none s (headerOf s) (afterId (headerOf s)) w ∙ sym (warnings-none (take (e .size) s) (headerOf s) (afterId (headerOf s)) w) ∙ f .warnings
+
+-- walking along them from where the reading says meets their texts, as many as it says, and comes to an end
+pub record Walked (s : List ℕ) (e : Envelope) : Type 0 where
+  pub places : List Place
+  pub end : ℕ
+  pub walks : Walks s (e .warnings .count) (e .warnings .start) places (got tt end)
+  pub many : length places ≡ e .warnings .count
+  pub texts : textsIn s places ≡ warningsIn s e
+
+pub warnings-walk : (s : List ℕ) {e : Envelope} → envelope s ≡ whole e → Walked s e
+unfolding warningsIn
+warnings-walk s {e} q = go (hasWarnings (headerOf s)) refl
+  where
+    f : Found s e
+    f = found s q
+
+    walked : (ps : List Place) (end : ℕ) → stringsAt s (e .warnings .count) (e .warnings .start) ≡ got ps end → Walked s e
+    walked ps end r =
+        let w = walk-read s (e .warnings .count) (e .warnings .start) r in
+        record { places = ps; end = end; walks = w .0; many = w .1; texts = sym (ap (textsOf s) r) }
+
+    go : (t : Bool) → hasWarnings (headerOf s) ≡ t → Walked s e
+    go true w =
+        let r = list-strings s (afterId (headerOf s)) (sym (warnings-there s (headerOf s) (afterId (headerOf s)) w) ∙ warnings-here s f) in
+        walked (r .0) (f .next) (r .1)
+    go false w =
+        let ws : strings 0 (afterId (headerOf s)) ≡ e .warnings = got-value (sym (warnings-none s (headerOf s) (afterId (headerOf s)) w) ∙ warnings-here s f) in
+        walked [] (afterId (headerOf s)) (ap (λ (x : Strings). stringsAt s (x .count) (x .start)) (sym ws) ∙ none-read s (afterId (headerOf s)))

@@ -1,38 +1,37 @@
 -- An envelope that was read may be written, and its bytes are those that were read, under the premises of docs/RULES.md, 11.2. Assumes nothing.
-use Prim.Native.Nat.{ℕ, _+_, _*_, _-_, _/_, _%_, _^_, _≤_, _<_}
+use Prim.Native.Nat.{ℕ, _+_, _*_, _-_, _/_, _%_, _≤_, _<_}
 use mathlib.Core.Path.{_≡_, refl, sym, ap, ap₂, _∙_, subst}
 use mathlib.Core.Bool.{Bool, true, false, cond, _&&_}
 use mathlib.Core.List.{List, [], _∷_, _++_}
-use mathlib.Core.Option.{Option, some}
-use native.Mathlib.Nat.{add-zero, add-assoc, zero-add}
+use mathlib.Core.Option.{some}
+use native.Mathlib.Nat.{add-zero, zero-add}
 use native.Mathlib.Omega.{arith}
-use borrow.Author.Tests.{le-leb, lt-leb, leb-true, leb-false, eq-eqb}
+use borrow.Author.Tests.{le-leb, leb-true, leb-false, eq-eqb}
 use lib.Dec.{leb, eqb}
-use lib.ListN.{length, take, drop, getD, length-append, take-append-drop}
+use lib.ListN.{length, take, drop, getD}
 use lib.Seq.{take-add, drop-drop, drop-cons, length-take-le}
 use mir.Syntax.{w16}
-use mir.Val.{toZ, ofZ}
+use mir.Val.{ofZ}
 use mir.ValLaws.{ofZ-toZ}
 use Rattle.basis.specs.Bytes.{Bytes}
 use Rattle.types.specs.Answer.{Answer, got, refused}
 use Rattle.types.specs.Number.{be, part, digits}
-use Rattle.types.specs.Read.{Place, place, Strings, strings, bytesIn, stringsAt, textsIn, stringListAt}
+use Rattle.types.specs.Read.{Place, place, Strings, bytesIn, stringsAt, textsIn}
 use Rattle.types.specs.Write.{Check, fine, joined, lengthsOf, listBytes, listCheck, put, written, output, Wrote}
-use Rattle.types.proofs.BigEndian.{digits-be, be-below, length-part, bytes-part, length-digits}
+use Rattle.types.proofs.BigEndian.{digits-be, be-below, length-part, bytes-part}
 use Rattle.types.proofs.Put.{demanded}
-use Rattle.types.proofs.Found.{some-counted, got-value, got-next}
+use Rattle.types.proofs.Found.{some-counted, got-next}
 use Rattle.types.proofs.Holds.{Holds, holds-part, holds-join, holds-put, Stands}
 use Rattle.types.proofs.Lists.{ListRead, list-forth, cut-joined}
 use Rattle.types.proofs.Reading.{bytes-there}
-use Rattle.types.proofs.Steady.{steady-string-list, appended}
-use Rattle.frame.specs.Header.{Header, headerOf, flag, hasId, hasWarnings, knownVersion, knownOpcode}
-use Rattle.frame.specs.Envelope.{Front, whole, declared, Envelope, envelopeWith, idPlace, afterId, warningsAt, envelope, idIn, bodyIn, textsOf, warningsIn}
+use Rattle.frame.specs.Header.{Header, headerOf, flag, hasId, hasWarnings}
+use Rattle.frame.specs.Envelope.{whole, declared, Envelope, idPlace, afterId, warningsAt, envelope, idIn, bodyIn, textsOf, warningsIn}
 use Rattle.frame.specs.Write.{Content, content, idPart, warningsPart, tailBytes, headerBytes, envelopeBytes, maxBody, maxFlags, idFits, warningFits, flagsFit, headFits, warningsCheck, envelopeCheck}
 use Rattle.frame.proofs.Bounds.{within-bytes}
-use Rattle.frame.proofs.Cases.{Sized, warnings-there, warnings-none}
+use Rattle.frame.proofs.Cases.{warnings-there, warnings-none}
 use Rattle.frame.proofs.Checked.{id-there, id-none, list-there, list-none, check-there, check-none, tail-length}
 use Rattle.frame.proofs.Ends.{warnings-end}
-use Rattle.frame.proofs.Found.{Found, found}
+use Rattle.frame.proofs.Found.{Found, found, warnings-here}
 use Rattle.frame.proofs.Laid.{header-length, envelope-length}
 
 -- the flag byte has none of 01, 20, 40 and 80; it is no request with 08; and its declared length is not over the largest that is written
@@ -200,17 +199,6 @@ module _ (s : List ℕ) (b : Bytes s) {e : Envelope} (q : envelope s ≡ whole e
   id-room : afterId h ≤ length s
   id-room = omega (arith, met .id, room)
 
-  -- the warnings are read as well with all that stands behind
-  warnings-here : warningsAt s h (afterId h) ≡ got (e .warnings) (met .next)
-  warnings-here = go (hasWarnings h) refl
-    where
-      go : (t : Bool) → hasWarnings h ≡ t → warningsAt s h (afterId h) ≡ got (e .warnings) (met .next)
-      go true w =
-          warnings-there s h (afterId h) w
-          ∙ ap (λ (l : List ℕ). stringListAt l (afterId h)) (sym (take-append-drop n s))
-          ∙ appended stringListAt steady-string-list (take n s) (afterId h) (sym (warnings-there (take n s) h (afterId h) w) ∙ met .warnings) (drop n s)
-      go false w = warnings-none s h (afterId h) w ∙ sym (warnings-none (take n s) h (afterId h) w) ∙ met .warnings
-
   end-room : met .next ≤ n
   end-room =
       let l : length (take n s) ≡ n = length-take-le n s room in
@@ -231,8 +219,8 @@ module _ (s : List ℕ) (b : Bytes s) {e : Envelope} (q : envelope s ≡ whole e
   ided : Ided s h id-room
   ided = id-forth s h id-room
 
-  warned : Warned s b h (afterId h) id-room warnings-here
-  warned = warnings-forth s b h (afterId h) id-room warnings-here
+  warned : Warned s b h (afterId h) id-room (warnings-here s met)
+  warned = warnings-forth s b h (afterId h) id-room (warnings-here s met)
 
   bodied : (length body-here ≡ n - met .next) × Holds s (met .next) body-here
   bodied = place-bytes s (met .next) (n - met .next) (omega (arith, end-room, room))

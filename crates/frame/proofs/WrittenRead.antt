@@ -2,30 +2,30 @@
 use Prim.Native.Nat.{ℕ, _+_, _*_, _-_, _/_, _%_, _≤_, _<_}
 use mathlib.Core.Path.{_≡_, refl, sym, ap, ap₂, _∙_, subst}
 use mathlib.Core.Bool.{Bool, true, false, cond, _&&_}
-use mathlib.Core.List.{List, [], _∷_, _++_, append-assoc, append-nil}
+use mathlib.Core.List.{List, [], _++_, append-assoc, append-nil}
 use mathlib.Core.Option.{some}
-use native.Mathlib.Nat.{add-zero, add-assoc, zero-add, add-sub-cancel-left}
+use native.Mathlib.Nat.{add-zero, zero-add, add-sub-cancel-left}
 use native.Mathlib.Omega.{arith}
 use borrow.Author.Tests.{le-leb, lt-leb, eqb-true}
 use lib.Dec.{leb, eqb}
-use lib.ListN.{length, take, drop, getD, length-append, take-append-drop}
+use lib.ListN.{length, drop, length-append, take-append-drop}
 use lib.Seq.{take-length, take-at}
 use mir.Syntax.{w16, w32}
 use mir.Val.{toZ, ofZ, SFits}
 use mir.ValLaws.{toZ-ofZ, ofZ-fits}
-use Rattle.types.specs.Answer.{Answer, got, refused}
-use Rattle.types.specs.Number.{be, part, digits}
-use Rattle.types.specs.Read.{Place, place, Strings, strings, bytesIn, natural, stringsAt, textsIn, stringListAt}
-use Rattle.types.specs.Write.{Check, fine, cutBy, listBytes, listCheck, Wrote}
+use Rattle.types.specs.Answer.{got}
+use Rattle.types.specs.Number.{be, digits}
+use Rattle.types.specs.Read.{place, Strings, strings, bytesIn, natural, stringsAt, textsIn}
+use Rattle.types.specs.Write.{fine, cutBy, listBytes, listCheck, Wrote}
 use Rattle.types.proofs.BigEndian.{be-digits-fit}
 use Rattle.types.proofs.Holds.{Holds, holds-left, holds-right, holds-bytes, Stands, accepted}
-use Rattle.types.proofs.Lists.{placesFrom, list-texts, list-back}
+use Rattle.types.proofs.Lists.{list-texts, list-back}
 use Rattle.types.proofs.Reading.{natural-some}
 use Rattle.frame.specs.Header.{Header, headerOf, flag, hasId, hasWarnings, knownVersion}
-use Rattle.frame.specs.Envelope.{Front, whole, declared, sizeOf, Envelope, envelopeWith, idPlace, afterId, warningsAt, within, inside, envelope, idIn, bodyIn, textsOf, warningsIn}
+use Rattle.frame.specs.Envelope.{whole, declared, sizeOf, Envelope, envelopeWith, afterId, warningsAt, within, inside, envelope, idIn, bodyIn, textsOf, warningsIn}
 use Rattle.frame.specs.Write.{Content, idPart, warningsPart, tailBytes, clearedFlags, headerBytes, envelopeBytes, envelopeCheck}
 use Rattle.frame.proofs.Cases.{fits, size-is, read, within-is, warnings-there, warnings-none, envelope-inside}
-use Rattle.frame.proofs.Checked.{Fits, fields-fit, version-small, id-there, id-none, list-there, list-none, check-there, tail-length}
+use Rattle.frame.proofs.Checked.{Fits, fields-fit, version-small, list-there, list-none, check-there, tail-length}
 use Rattle.frame.proofs.Laid.{header-length, envelope-length}
 
 -- flag 01 is not written

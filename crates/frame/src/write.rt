@@ -1,13 +1,11 @@
 // Writing an envelope at the front of an output: 15, then 13, then 14. A refusal leaves the output as it was.
 ghost use mathlib.Core.Path.{_≡_};
 ghost use Prim.Native.Nat.{_+_, _≤_};
-ghost use mathlib.Core.Bool.{cond};
 ghost use lib.ListN.{length};
 ghost use Rattle.types.specs.Paper.{paperWritable, paperWritten};
 ghost use Rattle.types.specs.Write.{Wrote, fine, put};
-ghost use Rattle.frame.specs.Header.{hasWarnings};
 ghost use Rattle.frame.specs.Write.{content, idPart, warningsPart, headerBytes, envelopeBytes, maxBody, idFits, warningFits, flagsFit, headFits, firstByte, warningsCheck, envelopeCheck};
-ghost use Rattle.frame.specs.Paper.{isResponse, paperHeader};
+ghost use Rattle.frame.specs.Paper.{paperHeader};
 ghost use Rattle.frame.specs.Inside.{capped, idSize, warningsSize, tailSize, Planned};
 use crate::Direction;
 use crate::HEADER_LEN;

@@ -1,14 +1,14 @@
 -- Which refusals reading strings can meet: 12 and 13. Assumes nothing.
 use Prim.Native.Nat.{ℕ, zero, suc, _+_, _≤_}
 use mathlib.Core.Path.{_≡_, refl, sym, _∙_, subst}
-use mathlib.Core.Bool.{Bool, true, false, cond}
-use mathlib.Core.List.{List, [], _∷_}
+use mathlib.Core.Bool.{Bool, true, false}
+use mathlib.Core.List.{List, _∷_}
 use native.Mathlib.Omega.{arith}
 use lib.Dec.{leb}
 use lib.ListN.{length}
 use Rattle.types.specs.Answer.{Answer, got, refused, andThen}
 use Rattle.types.specs.Number.{part}
-use Rattle.types.specs.Read.{Place, strings, shortAt, textAt, stringAt, stringsAt, listed, stringListAt}
+use Rattle.types.specs.Read.{strings, shortAt, textAt, stringAt, stringsAt, listed, stringListAt}
 use Rattle.types.proofs.Found.{got-refused, refused-number}
 use Rattle.types.proofs.Reading.{number-read, number-past, text-read, text-not, text-past}
 use Rattle.utf8.specs.Utf8.{utf8}

@@ -44,17 +44,23 @@ unfolding stringsAt
 walk-refused s zero at e = absurd (got-refused (sym e))
 walk-refused s (suc n) at {number} e = refused-from s n at number (λ next f. walk-refused s n next f) (stringAt s at) refl e
 
--- a list that is read is walked along from its first string: as many texts as its count says, and the same end
-pub list-walks : (s : List ℕ) (at : ℕ) {n start end : ℕ} → stringListAt s at ≡ got (strings n start) end
-    → (ps : List Place) × Walks s n start ps (got tt end) × (length ps ≡ n)
+-- the strings of a list that is read
+pub list-strings : (s : List ℕ) (at : ℕ) {n start end : ℕ} → stringListAt s at ≡ got (strings n start) end → (ps : List Place) × (stringsAt s n start ≡ got ps end)
 unfolding stringListAt listed
-list-walks s at {n} {start} {end} e =
+list-strings s at {n} {start} {end} e =
     let h = behind (shortAt s at) (listed s) e in
     let k = behind (stringsAt s (h .value) (h .next)) (λ ps next. got (strings (h .value) (h .next)) next) (h .then) in
     let en : h .value ≡ n = ap (λ (x : Strings). x .count) (got-value (k .then)) in
     let es : h .next ≡ start = ap (λ (x : Strings). x .start) (got-value (k .then)) in
-    let w = walk-read s n start (sym (ap₂ (stringsAt s) en es) ∙ k .first ∙ ap (got (k .value)) (got-next (k .then))) in
-    (k .value, w .0, w .1)
+    (k .value, sym (ap₂ (stringsAt s) en es) ∙ k .first ∙ ap (got (k .value)) (got-next (k .then)))
+
+-- they are walked along from the first on: as many texts as the count says, and the same end
+pub list-walks : (s : List ℕ) (at : ℕ) {n start end : ℕ} → stringListAt s at ≡ got (strings n start) end
+    → (ps : List Place) × Walks s n start ps (got tt end) × (length ps ≡ n)
+list-walks s at {n} {start} e =
+    let r = list-strings s at e in
+    let w = walk-read s n start (r .1) in
+    (r .0, w .0, w .1)
 
 -- and there is only one walk: the steps say all of it
 none-some : {x : Place × ℕ} → none ≡ some x → ⊥

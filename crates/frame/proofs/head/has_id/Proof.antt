@@ -1,5 +1,4 @@
 -- `frame::head::has_id` meets its contract: only a response has one, and it has the flag. Assumes nothing.
-use Prim.Native.Nat.{ℕ}
 use mathlib.Core.Path.{sym, ap, _∙_}
 use mathlib.Core.Bool.{_&&_}
 use Rattle.frame.specs.Header.{flag, hasId}

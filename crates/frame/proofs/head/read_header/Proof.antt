@@ -8,7 +8,7 @@ use lib.ListN.{getD}
 use mir.Syntax.{w16}
 use mir.Val.{toZ}
 use mir.ValLaws.{toZ-ofZ}
-use Rattle.frame.specs.Header.{Header, headerOf}
+use Rattle.frame.specs.Header.{headerOf}
 use Rattle.frame.proofs.head.read_header.Statement.{statement}
 use Rattle.frame.proofs.head.read_header.Tie as tie
 

@@ -1,6 +1,5 @@
 -- `frame::read::envelope_size` meets its contract: each test is that of one case. Assumes nothing.
 use mathlib.Core.Path.{sym, ap, _∙_}
-use native.Mathlib.Omega.{arith}
 use mir.Syntax.{w32}
 use mir.Val.{toZ}
 use Rattle.types.specs.Read.{natural}
@@ -8,8 +7,7 @@ use Rattle.types.proofs.Reading.{natural-some, natural-none}
 use Rattle.frame.specs.Envelope.{declared}
 use Rattle.frame.specs.Header.{headerOf}
 use Rattle.frame.proofs.Cases.{short, negative, cut, unknown, fits, size-is}
-use Prim.Native.Nat.{ℕ, _+_, _≤_}
-use lib.ListN.{length}
+use Prim.Native.Nat.{ℕ}
 use borrow.Author.Needs.{needs}
 use Rattle.frame.proofs.read.envelope_size.Statement.{statement}
 use Rattle.frame.proofs.read.envelope_size.Tie as tie

@@ -4,7 +4,6 @@ use mathlib.Core.Bool.{Bool}
 use Prim.Native.Nat.{_-_}
 use Rattle.types.specs.Paper.{stringsOf}
 use Rattle.types.specs.Read.{place}
-use Rattle.frame.specs.Envelope.{Envelope}
 use Rattle.frame.specs.Paper.{paperHeader}
 use borrow.Author.Needs.{needs}
 use Rattle.frame.proofs.read.envelope_with.Statement.{statement}

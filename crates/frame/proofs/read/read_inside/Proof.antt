@@ -1,9 +1,7 @@
 -- `frame::read::read_inside` meets its contract: each test is that of one case. Assumes nothing.
-use mathlib.Core.Path.{sym, ap, ap₂, _∙_, subst}
+use mathlib.Core.Path.{sym, ap, _∙_, subst}
 use lib.ListN.{length}
 use Prim.Native.Nat.{ℕ, _≤_, _<_}
-use mathlib.Core.Bool.{true, false}
-use Rattle.frame.specs.Header.{Header, knownOpcode}
 use Rattle.frame.specs.Envelope.{inside, within, readAs, warningsAt}
 use Rattle.frame.specs.Paper.{paperHeader}
 use Rattle.frame.proofs.Cases.{opcode-unknown, id-cut, id-whole, within-is}

@@ -4,7 +4,7 @@ use mathlib.Core.Logic.{_⊎_, inl, inr}
 use native.Mathlib.Omega.{arith}
 use denote.Enum.Declared.{tagOf}
 use lib.ListN.{length}
-use Rattle.frame.specs.Envelope.{Envelope, whole, readAs}
+use Rattle.frame.specs.Envelope.{whole, readAs}
 use Rattle.frame.specs.Inside.{paperWarnings}
 use Rattle.frame.specs.Paper.{paperHeader}
 use Rattle.frame.specs.declared.read.Warnings.{Warnings}

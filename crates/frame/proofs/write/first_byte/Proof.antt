@@ -1,7 +1,7 @@
 -- `frame::write::first_byte` meets its contract: the high bit is the direction. Assumes nothing.
 use Prim.Native.Nat.{_+_}
 use mathlib.Core.Path.{sym, ap, _∙_}
-use mathlib.Core.Bool.{Bool, cond}
+use mathlib.Core.Bool.{cond}
 use native.Mathlib.Nat.{add-zero}
 use Rattle.frame.specs.Paper.{isResponse}
 use Rattle.frame.specs.declared.Direction.{Direction}

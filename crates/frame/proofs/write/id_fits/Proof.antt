@@ -1,5 +1,4 @@
 -- `frame::write::id_fits` meets its contract: where there is an id, its length is tested. Assumes nothing.
-use Prim.Native.Nat.{ℕ}
 use mathlib.Core.Path.{sym, ap, _∙_}
 use mathlib.Core.Bool.{Bool, true, cond}
 use lib.Dec.{eqb}

@@ -1,5 +1,4 @@
 -- `frame::write::id_size` meets its contract: as many as there are, where they are written. Assumes nothing.
-use Prim.Native.Nat.{ℕ}
 use mathlib.Core.Path.{sym, ap, _∙_}
 use mathlib.Core.Bool.{Bool, cond}
 use borrow.Author.Needs.{needs}

@@ -1,5 +1,5 @@
 -- `frame::write::put_envelope` meets its contract: its parts are laid one behind the other, where there is room for all. Assumes nothing.
-use Prim.Native.Nat.{ℕ, _+_, _≤_}
+use Prim.Native.Nat.{ℕ, _+_}
 use mathlib.Core.Path.{sym, ap, _∙_}
 use native.Mathlib.Omega.{arith}
 use Rattle.types.proofs.Put.{wrote-none}
