@@ -1,4 +1,4 @@
-//! Links the static library that `rt staticlib crc` writes.
+//! Links the static library that `rt staticlib collector` writes.
 use std::path::Path;
 
 fn main() {
@@ -7,9 +7,9 @@ fn main() {
         .expect("host/ stands in the repository");
     let folder = root.join("target/staticlib");
     println!("cargo:rustc-link-search=native={}", folder.display());
-    println!("cargo:rustc-link-lib=static=crc");
+    println!("cargo:rustc-link-lib=static=collector");
     println!(
         "cargo:rerun-if-changed={}",
-        folder.join("libcrc.a").display()
+        folder.join("libcollector.a").display()
     );
 }

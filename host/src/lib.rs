@@ -7,6 +7,7 @@ mod exported {
     extern "C" {
         pub fn tanglegoose_crc24(bytes: *const u8, len: usize) -> u32;
         pub fn tanglegoose_crc32(bytes: *const u8, len: usize) -> u32;
+        pub fn tanglegoose_check_envelope_size(bytes: *const u8, len: usize) -> i64;
     }
 }
 
@@ -20,4 +21,11 @@ pub fn crc24(bytes: &[u8]) -> u32 {
 pub fn crc32(bytes: &[u8]) -> u32 {
     // SAFETY: as above.
     unsafe { exported::tanglegoose_crc32(bytes.as_ptr(), bytes.len()) }
+}
+
+/// How long the envelope at the front of the bytes is, with its header: 0 where it is not complete yet, and -8 or -9 where its length is negative or
+/// its version unknown.
+pub fn check_envelope_size(bytes: &[u8]) -> i64 {
+    // SAFETY: as above.
+    unsafe { exported::tanglegoose_check_envelope_size(bytes.as_ptr(), bytes.len()) }
 }
