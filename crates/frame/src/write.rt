@@ -143,6 +143,7 @@ fn put_header(out: &mut [u8], header: Header, n: usize)
     let opcode = header.opcode;
     let first = first_byte(header);
     let bits = number::bits16(header.stream);
+    // Flag 01 is cleared; numbers begin with their highest byte.
     let bytes = [
         first,
         flags / 2 * 2,
