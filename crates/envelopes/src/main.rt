@@ -30,6 +30,25 @@ fn answer_parts(line: &[u8], items: &mut [usize], bytes: &mut [u8]) -> bool {
 }
 
 // The lengths come last: the bytes before them need the items on the way.
+fn answer_body(
+    line: &[u8],
+    asked: Asked,
+    id: &[u8],
+    text: &[u8],
+    items: &mut [usize],
+    body: &mut [u8],
+    out: &mut [u8],
+) -> bool {
+    let Number::Value(n) = words::bytes_at(line, 10, items, body) else {
+        return false;
+    };
+    let Number::Value(count) = words::lengths_at(line, 9, items) else {
+        return false;
+    };
+    let lens = words::front_items(items, count);
+    writes::envelope(out, asked, id, text, lens, words::front(body, n))
+}
+
 fn answer_write(
     line: &[u8],
     items: &mut [usize],
@@ -38,29 +57,21 @@ fn answer_write(
     body: &mut [u8],
     out: &mut [u8],
 ) -> bool {
-    let Asked::Given(room, header) = writes::fields(line) else {
+    let Number::Value(n) = words::bytes_at(line, 7, items, id) else {
         return false;
     };
-    let Number::Value(id_len) = words::bytes_at(line, 7, items, id) else {
+    let Number::Value(m) = words::bytes_at(line, 8, items, text) else {
         return false;
     };
-    let Number::Value(text_len) = words::bytes_at(line, 8, items, text) else {
-        return false;
-    };
-    let Number::Value(body_len) = words::bytes_at(line, 10, items, body) else {
-        return false;
-    };
-    let Number::Value(count) = words::lengths_at(line, 9, items) else {
-        return false;
-    };
-    writes::envelope(
+    let asked = writes::asked_by(line);
+    answer_body(
+        line,
+        asked,
+        words::front(id, n),
+        words::front(text, m),
+        items,
+        body,
         out,
-        room,
-        header,
-        words::front(id, id_len),
-        words::front(text, text_len),
-        words::front_items(items, count),
-        words::front(body, body_len),
     )
 }
 
@@ -99,7 +110,7 @@ fn answer_all(
 
 // The longest input; and the longest list of warnings in an envelope, with some bytes more.
 fn main() {
-    let mut input = [0u8; 1_048_576];
+    let mut input = [0u8; 393_216];
     let mut items = [0usize; 131_200];
     let mut id = [0u8; 64];
     let mut text = [0u8; 131_200];

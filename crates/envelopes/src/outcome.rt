@@ -49,12 +49,16 @@ fn say_direction(direction: Direction) {
     }
 }
 
+fn say_stream(stream: i16) {
+    say::integer(b" ", stream as i64);
+}
+
 pub fn header(header: Header) {
     let direction = header.direction;
     say::number(b" ", header.version as usize);
     say_direction(direction);
     say::byte(header.flags);
-    say::integer(b" ", header.stream as i64);
+    say_stream(header.stream);
     say::text(b" ");
     say::byte(header.opcode);
 }

@@ -12,7 +12,7 @@ use types::Written;
 
 // The output's length and the header that a line asks for.
 pub enum Asked {
-    Given(usize, Header),
+    Write(usize, Header),
     Missing,
 }
 
@@ -58,7 +58,7 @@ fn way_of(word: &[u8]) -> Way {
 }
 
 // Room and version are numbers, the other words up to the opcode those of a header.
-fn fields_with(line: &[u8], room: usize, version: u8) -> Asked {
+fn asked_with(line: &[u8], room: usize, version: u8) -> Asked {
     let Way::Is(direction) = way_of(words::field(line, b' ', 3)) else {
         return Asked::Missing;
     };
@@ -78,10 +78,13 @@ fn fields_with(line: &[u8], room: usize, version: u8) -> Asked {
         stream,
         opcode,
     };
-    Asked::Given(room, header)
+    Asked::Write(room, header)
 }
 
-pub fn fields(line: &[u8]) -> Asked {
+pub fn asked_by(line: &[u8]) -> Asked {
+    if !words::same(words::field(line, b' ', 0), b"write") {
+        return Asked::Missing;
+    }
     let Number::Value(room) = words::number_at(line, 1) else {
         return Asked::Missing;
     };
@@ -91,7 +94,7 @@ pub fn fields(line: &[u8]) -> Asked {
     if 255 < version {
         return Asked::Missing;
     }
-    fields_with(line, room, version as u8)
+    asked_with(line, room, version as u8)
 }
 
 fn show(
@@ -110,16 +113,18 @@ fn show(
     outcome::spelt(b" holds ", out);
 }
 
-// Whether there is so much room.
+// Whether the line was a case, and not for more room than there is.
 pub fn envelope(
     out: &mut [u8],
-    room: usize,
-    header: Header,
+    asked: Asked,
     id: &[u8],
     text: &[u8],
     lens: &[usize],
     body: &[u8],
 ) -> bool {
+    let Asked::Write(room, header) = asked else {
+        return false;
+    };
     if out.len() < room {
         return false;
     }
