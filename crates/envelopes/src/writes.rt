@@ -97,14 +97,7 @@ pub fn asked_by(line: &[u8]) -> Asked {
     asked_with(line, room, version as u8)
 }
 
-fn show(
-    out: &mut [u8],
-    header: Header,
-    id: &[u8],
-    text: &[u8],
-    lens: &[usize],
-    body: &[u8],
-) {
+fn show(out: &mut [u8], header: Header, id: &[u8], text: &[u8], lens: &[usize], body: &[u8]) {
     cases::fill(out);
     match write::write_envelope(out, header, id, text, lens, body) {
         Written::Next(n) => say::number(b"wrote ", n),
