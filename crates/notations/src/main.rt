@@ -1,11 +1,12 @@
 // Does what each line of standard input asks of the notations, and writes what came of it, a line for a line. README.md beside
 // src/ has the shapes of a line.
+use cases::say;
+use cases::words;
+use cases::words::Number;
 use libc::STDIN_FILENO;
-use words::Number;
 
+mod outcome;
 mod reads;
-mod say;
-mod words;
 mod writes;
 
 // An operation and one word more.
@@ -90,24 +91,12 @@ fn answer(line: &[u8], items: &mut [usize], bytes: &mut [u8], out: &mut [u8]) ->
     }
 }
 
-// A line that is no case is answered too, so that every answer stands at its line.
-fn answer_line(line: &[u8], items: &mut [usize], bytes: &mut [u8], out: &mut [u8]) {
-    if answer(line, items, bytes, out) {
-        say::text(b"\n");
-    } else {
-        say::text(b"?\n");
-    }
-}
-
 fn answer_all(input: &[u8], items: &mut [usize], bytes: &mut [u8], out: &mut [u8]) {
     let mut start: usize = 0;
-    let mut i: usize = 0;
-    while i < input.len() {
-        if input[i] == b'\n' {
-            answer_line(&input[start..i], items, bytes, out);
-            start = i + 1;
-        }
-        i += 1;
+    while start < input.len() {
+        let line = words::line(input, start);
+        say::end_line(answer(line, items, bytes, out));
+        start += line.len() + 1;
     }
 }
 

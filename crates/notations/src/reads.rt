@@ -1,7 +1,8 @@
 // The cases that read. Each answers whether the line was such a case.
-use crate::say;
-use crate::words;
-use crate::words::Hex;
+use crate::outcome;
+use cases::say;
+use cases::words;
+use cases::words::Hex;
 use libc::STDOUT_FILENO;
 use types::Place;
 use types::ReadByte;
@@ -16,35 +17,35 @@ use types::read;
 
 fn byte(bytes: &[u8], at: usize) {
     match read::read_byte(bytes, at) {
-        ReadByte::Value(x, next) => say::value(x as usize, next),
+        ReadByte::Value(x, next) => outcome::value(x as usize, next),
         ReadByte::Refused(why) => say::refused(b"refused ", why),
     }
 }
 
 fn short(bytes: &[u8], at: usize) {
     match read::read_short(bytes, at) {
-        ReadShort::Value(x, next) => say::value(x as usize, next),
+        ReadShort::Value(x, next) => outcome::value(x as usize, next),
         ReadShort::Refused(why) => say::refused(b"refused ", why),
     }
 }
 
 fn int(bytes: &[u8], at: usize) {
     match read::read_int(bytes, at) {
-        ReadInt::Value(x, next) => say::signed(x as i64, next),
+        ReadInt::Value(x, next) => outcome::signed(x as i64, next),
         ReadInt::Refused(why) => say::refused(b"refused ", why),
     }
 }
 
 fn long(bytes: &[u8], at: usize) {
     match read::read_long(bytes, at) {
-        ReadLong::Value(x, next) => say::signed(x, next),
+        ReadLong::Value(x, next) => outcome::signed(x, next),
         ReadLong::Refused(why) => say::refused(b"refused ", why),
     }
 }
 
 fn part(bytes: &[u8], answer: ReadPart) {
     match answer {
-        ReadPart::Part(place, next) => say::part(bytes, place, next),
+        ReadPart::Part(place, next) => outcome::part(bytes, place, next),
         ReadPart::Refused(why) => say::refused(b"refused ", why),
     }
 }
@@ -52,7 +53,7 @@ fn part(bytes: &[u8], answer: ReadPart) {
 fn part_or_null(bytes: &[u8], at: usize) {
     match read::read_bytes(bytes, at) {
         ReadBytes::Null(next) => say::number(b"null next ", next),
-        ReadBytes::Part(place, next) => say::part(bytes, place, next),
+        ReadBytes::Part(place, next) => outcome::part(bytes, place, next),
         ReadBytes::Refused(why) => say::refused(b"refused ", why),
     }
 }
@@ -63,7 +64,7 @@ fn list(bytes: &[u8], at: usize) {
             say::number(b"strings ", walk.left as usize);
             say::number(b" from ", walk.at);
             say::number(b" next ", next);
-            say::walk(bytes, walk);
+            outcome::walk(bytes, walk);
         }
         ReadStrings::Refused(why) => say::refused(b"refused ", why),
     }
@@ -94,7 +95,7 @@ fn walk(bytes: &[u8], left: usize, at: usize) -> bool {
         return false;
     }
     say::text(b"walked");
-    say::walk(
+    outcome::walk(
         bytes,
         Walk {
             left: left as u16,
@@ -107,7 +108,7 @@ fn walk(bytes: &[u8], left: usize, at: usize) -> bool {
 fn place(bytes: &[u8], start: usize, len: usize) -> bool {
     let part = types::part(bytes, Place { start, len });
     say::number(b"bytes ", part.len());
-    say::summed(b" sum ", part);
+    outcome::summed(b" sum ", part);
     true
 }
 

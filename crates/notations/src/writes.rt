@@ -1,8 +1,8 @@
 // The cases that write. Each answers whether the line was such a case.
-use crate::say;
-use crate::words;
-use crate::words::Number;
-use crate::words::Signed;
+use crate::outcome;
+use cases::words;
+use cases::words::Number;
+use cases::words::Signed;
 use types::Written;
 use types::write;
 
@@ -12,19 +12,10 @@ enum Tried {
     NoCase,
 }
 
-// An output is filled with one byte before it is written in, so that every change shows.
-fn fill(out: &mut [u8]) {
-    let mut i: usize = 0;
-    while i < out.len() {
-        out[i] = 0xee;
-        i += 1;
-    }
-}
-
 fn show(tried: Tried, out: &[u8]) -> bool {
     match tried {
         Tried::Did(answer) => {
-            say::written(answer, out);
+            outcome::written(answer, out);
             true
         }
         Tried::NoCase => false,
@@ -111,7 +102,7 @@ fn write_bytes(name: &[u8], out: &mut [u8], at: usize, bytes: &[u8]) -> Tried {
 }
 
 fn show_number(name: &[u8], out: &mut [u8], at: usize, word: &[u8]) -> bool {
-    fill(out);
+    cases::fill(out);
     let tried = write_number(name, out, at, words::integer(word));
     show(tried, out)
 }
@@ -124,7 +115,7 @@ pub fn number(name: &[u8], out: &mut [u8], room: usize, at: usize, word: &[u8]) 
 }
 
 fn show_bytes(name: &[u8], out: &mut [u8], at: usize, bytes: &[u8]) -> bool {
-    fill(out);
+    cases::fill(out);
     let tried = write_bytes(name, out, at, bytes);
     show(tried, out)
 }
@@ -137,9 +128,9 @@ pub fn bytes(name: &[u8], out: &mut [u8], room: usize, at: usize, bytes: &[u8]) 
 }
 
 fn show_null(out: &mut [u8], at: usize) -> bool {
-    fill(out);
+    cases::fill(out);
     let answer = write::write_null(out, at);
-    say::written(answer, out);
+    outcome::written(answer, out);
     true
 }
 
@@ -154,9 +145,9 @@ pub fn null(out: &mut [u8], room: usize, word: &[u8]) -> bool {
 }
 
 fn show_list(out: &mut [u8], at: usize, text: &[u8], lens: &[usize]) -> bool {
-    fill(out);
+    cases::fill(out);
     let answer = write::write_string_list(out, at, text, lens);
-    say::written(answer, out);
+    outcome::written(answer, out);
     true
 }
 

@@ -1,7 +1,6 @@
--- `notations::answer_all` is safe and ends: a line starts where or before it is looked at. Assumes nothing.
-use Prim.Native.Nat.{_≤_, _-_}
-use mathlib.Core.Logic.{⊎-elim}
-use mathlib.Core.Path.{_≡_, ap}
+-- `notations::answer_all` is safe and ends: each turn goes past a line's end. Assumes nothing.
+use Prim.Native.Nat.{_-_}
+use mathlib.Core.Path.{_≡_}
 use borrow.Author.Needs.{needs}
 use native.Mathlib.Omega.{arith}
 use lib.ListN.{length}
@@ -9,11 +8,10 @@ use Rattle.notations.proofs.answer_all.Statement.{statement}
 use Rattle.notations.proofs.answer_all.Tie as tie
 
 abbrev Inv-loop : tie.InvT-loop
-Inv-loop input items₀ bytes₀ out₀ start₀ i₀ items bytes out start i =
-    (start ≤ i) × (i ≤ length input) × (length items ≡ length items₀) × (length bytes ≡ length bytes₀) × (length out ≡ length out₀)
+Inv-loop input items₀ bytes₀ out₀ start₀ items bytes out start = (length items ≡ length items₀) × (length bytes ≡ length bytes₀) × (length out ≡ length out₀)
 
 abbrev μ-loop : tie.MeasureT-loop
-μ-loop input items₀ bytes₀ out₀ start₀ i₀ items bytes out start i = length input - i
+μ-loop input items₀ bytes₀ out₀ start₀ items bytes out start = length input - start
 
 pub answer-all-spec : {M : Type 1} → statement M
 answer-all-spec =
@@ -21,20 +19,14 @@ answer-all-spec =
     (tie.spec
     Inv-loop
     μ-loop
-    (λ c. omega arith)
-    (λ c. omega arith)
-    (λ c. omega arith)
-    (λ c. omega arith)
-    (λ c. omega arith)
+    (λ c. search needs)
+    (λ c κs. tt)
+    (λ c κs. tt)
     (λ c κs. tt)
     (λ c. omega arith)
     (λ c. omega arith)
     (λ c. omega arith)
-    (λ c.
-    ⊎-elim
-    (λ w. omega (arith, ap length (w .12), ap length (w .13), ap length (w .14), w .6 .given, w .8 .given, w .10 .given))
-    (λ w. omega (arith, ap length (w .1), ap length (w .2), ap length (w .3)))
-    (c .if1 .came))
+    (λ c. search needs)
     (λ c. search needs)
     (λ c. search needs)
     (λ c. search needs)

@@ -1,0 +1,66 @@
+// What is written for a person: plain words and numbers.
+use libc::STDOUT_FILENO;
+use refusal::Refusal;
+use types::Place;
+use types::Walk;
+use types::Walked;
+
+pub fn text(words: &[u8]) {
+    io::write_all(STDOUT_FILENO, words);
+}
+
+pub fn number(before: &[u8], n: usize) {
+    text(before);
+    io::print_decimal(STDOUT_FILENO, n as u64);
+}
+
+// The size of the least number is one more than that of the largest.
+pub fn integer(before: &[u8], x: i64) {
+    text(before);
+    if x < 0 {
+        let below = (!x) as u64;
+        text(b"-");
+        io::print_decimal(STDOUT_FILENO, std::num::wrapping_add_u64(below, 1));
+    } else {
+        io::print_decimal(STDOUT_FILENO, x as u64);
+    }
+}
+
+pub fn byte(x: u8) {
+    io::print_hex(STDOUT_FILENO, x as u64, 2);
+}
+
+pub fn refused(before: &[u8], why: Refusal) {
+    text(before);
+    io::print_decimal(STDOUT_FILENO, why.number() as u64);
+}
+
+// The next text of a walk and the rest behind it, or that it is over.
+pub enum Rest {
+    More(Place, Walk),
+    Over,
+}
+
+// How a walk goes on; where it is over, how it ended is said.
+pub fn step(answer: Walked) -> Rest {
+    match answer {
+        Walked::Text(place, rest) => Rest::More(place, rest),
+        Walked::End(next) => {
+            number(b" end ", next);
+            Rest::Over
+        }
+        Walked::Refused(why) => {
+            refused(b" refused ", why);
+            Rest::Over
+        }
+    }
+}
+
+// A line that is no case is answered too, so that every answer stands at its line.
+pub fn end_line(was_case: bool) {
+    if was_case {
+        text(b"\n");
+    } else {
+        text(b"?\n");
+    }
+}
