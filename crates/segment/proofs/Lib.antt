@@ -1,0 +1,4 @@
+-- Laws that belong to no one function.
+pub mod LittleEndian
+pub mod HeaderBits
+pub mod HeaderLaid
