@@ -14,7 +14,8 @@ use Rattle.types.specs.Read.{strings, stringListAt}
 use Rattle.types.proofs.Found.{got-refused}
 use Rattle.types.proofs.Refusing.{OfTexts, list-refused}
 use Rattle.frame.specs.Header.{Header, headerOf, knownVersion, hasWarnings}
-use Rattle.frame.specs.Envelope.{Front, incomplete, refuses, whole, sizeOf, Envelope, afterId, warningsAt, within, inside, envelope}
+use Rattle.basis.specs.Front.{Front, incomplete, refuses, whole}
+use Rattle.frame.specs.Envelope.{sizeOf, Envelope, afterId, warningsAt, within, inside, envelope}
 use Rattle.frame.proofs.Cases.{Sizes, short, negative, cut, unknown, fits, size-is, size-case, Withins, opcode-unknown, id-cut, warnings-bad, read, within-case, Sized, size-found, envelope-unfinished, envelope-refused, envelope-inside}
 use Rattle.frame.proofs.Ends.{warnings-end}
 use Rattle.frame.proofs.Found.{front-declared, front-header, behind-declared, behind-header, found}

@@ -11,8 +11,9 @@ use lib.ListN.{length, take}
 use Rattle.types.specs.Answer.{Answer, got, refused}
 use Rattle.types.specs.Read.{Strings, strings, stringListAt}
 use Rattle.frame.specs.Header.{Header, headerOf, knownVersion, knownOpcode, hasWarnings}
-use Rattle.frame.specs.Envelope.{Front, incomplete, refuses, whole, ifWhole, declared, sized, sizeOf, Envelope, envelopeWith, afterId, warningsAt, readAs, within, inside, envelope}
-use Rattle.frame.proofs.Fronts.{not-whole, refused-not-whole, whole-value}
+use Rattle.basis.specs.Front.{Front, incomplete, refuses, whole, ifWhole}
+use Rattle.frame.specs.Envelope.{declared, sized, sizeOf, Envelope, envelopeWith, afterId, warningsAt, readAs, within, inside, envelope}
+use Rattle.basis.proofs.Fronts.{not-whole, refused-not-whole, whole-value}
 
 -- ---- how long an envelope is
 

@@ -9,7 +9,8 @@ use Rattle.types.specs.Number.{be, beFrom}
 use Rattle.types.specs.Read.{place, strings, bytesIn, numberAt, runAt, textAt, stringAt, stringsAt, textsIn, listed, stringListAt}
 use Rattle.utf8.specs.Utf8.{begin, step, after, utf8}
 use Rattle.frame.specs.Header.{headerOf, knownVersion, knownOpcode, hasId, hasWarnings}
-use Rattle.frame.specs.Envelope.{Front, incomplete, refuses, whole, ifWhole, Envelope, declared, sized, sizeOf, afterId, warningsAt, within, inside, envelope, idIn, bodyIn, warningsIn}
+use Rattle.basis.specs.Front.{Front, incomplete, refuses, whole, ifWhole}
+use Rattle.frame.specs.Envelope.{Envelope, declared, sized, sizeOf, afterId, warningsAt, within, inside, envelope, idIn, bodyIn, warningsIn}
 
 -- an envelope, its tracing id, its warnings and its body
 pub record Seen : Type 0 where

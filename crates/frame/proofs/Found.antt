@@ -16,8 +16,9 @@ use Rattle.types.proofs.Found.{got-value}
 use Rattle.types.proofs.Steady.{part-same, appended, steady-string-list}
 use Rattle.types.proofs.Walking.{walk-read, list-strings}
 use Rattle.frame.specs.Header.{headerOf, knownOpcode, hasWarnings}
-use Rattle.frame.specs.Envelope.{Front, incomplete, refuses, whole, declared, sizeOf, Envelope, envelopeWith, afterId, warningsAt, within, inside, envelope, textsOf, warningsIn}
-use Rattle.frame.proofs.Fronts.{not-whole, refused-not-whole, whole-value}
+use Rattle.basis.specs.Front.{Front, incomplete, refuses, whole}
+use Rattle.frame.specs.Envelope.{declared, sizeOf, Envelope, envelopeWith, afterId, warningsAt, within, inside, envelope, textsOf, warningsIn}
+use Rattle.basis.proofs.Fronts.{not-whole, refused-not-whole, whole-value}
 use Rattle.frame.proofs.Cases.{Withins, opcode-unknown, id-cut, warnings-bad, read, within-case, Sized, size-found, envelope-unfinished, envelope-refused, envelope-inside, warnings-there, warnings-none}
 
 -- ---- nine bytes make a header

@@ -1,5 +1,4 @@
 -- Laws that belong to no one function.
-pub mod Fronts
 pub mod Cases
 pub mod Ends
 pub mod Capped

@@ -25,7 +25,8 @@ use Rattle.types.proofs.Holds.{Holds, holds-part, holds-join, holds-put, Stands
 use Rattle.types.proofs.Lists.{ListRead, list-forth, cut-joined}
 use Rattle.types.proofs.Reading.{bytes-there}
 use Rattle.frame.specs.Header.{Header, headerOf, flag, hasId, hasWarnings}
-use Rattle.frame.specs.Envelope.{whole, declared, Envelope, idPlace, afterId, warningsAt, envelope, idIn, bodyIn, textsOf, warningsIn}
+use Rattle.basis.specs.Front.{whole}
+use Rattle.frame.specs.Envelope.{declared, Envelope, idPlace, afterId, warningsAt, envelope, idIn, bodyIn, textsOf, warningsIn}
 use Rattle.frame.specs.Write.{Content, content, idPart, warningsPart, tailBytes, headerBytes, envelopeBytes, maxBody, maxFlags, idFits, warningFits, flagsFit, headFits, warningsCheck, envelopeCheck}
 use Rattle.frame.proofs.Bounds.{within-bytes}
 use Rattle.frame.proofs.Cases.{warnings-there, warnings-none}

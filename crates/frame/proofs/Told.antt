@@ -5,7 +5,8 @@ use mathlib.Core.Bool.{Bool, true, false}
 use Rattle.basis.proofs.Determined.{Tells}
 use Rattle.refusal.proofs.Numbers.{refusalOf, refusalOf-number}
 use Rattle.frame.specs.Header.{Header}
-use Rattle.frame.specs.Envelope.{Envelope, Front, incomplete, refuses, whole}
+use Rattle.basis.specs.Front.{Front, incomplete, refuses, whole}
+use Rattle.frame.specs.Envelope.{Envelope}
 use Rattle.frame.specs.Paper.{isResponse, paperHeader, paperEnvelope, paperSize, paperReading}
 use Rattle.frame.specs.declared.Direction.{Direction}
 use Rattle.frame.specs.declared.Header as code-header

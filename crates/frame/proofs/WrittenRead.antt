@@ -22,7 +22,8 @@ use Rattle.types.proofs.Holds.{Holds, holds-left, holds-right, holds-bytes, Sta
 use Rattle.types.proofs.Lists.{list-texts, list-back}
 use Rattle.types.proofs.Reading.{natural-some}
 use Rattle.frame.specs.Header.{Header, headerOf, flag, hasId, hasWarnings, knownVersion}
-use Rattle.frame.specs.Envelope.{whole, declared, sizeOf, Envelope, envelopeWith, afterId, warningsAt, within, inside, envelope, idIn, bodyIn, textsOf, warningsIn}
+use Rattle.basis.specs.Front.{whole}
+use Rattle.frame.specs.Envelope.{declared, sizeOf, Envelope, envelopeWith, afterId, warningsAt, within, inside, envelope, idIn, bodyIn, textsOf, warningsIn}
 use Rattle.frame.specs.Write.{Content, idPart, warningsPart, tailBytes, clearedFlags, headerBytes, envelopeBytes, envelopeCheck}
 use Rattle.frame.proofs.Cases.{fits, size-is, read, within-is, warnings-there, warnings-none, envelope-inside}
 use Rattle.frame.proofs.Checked.{Fits, fields-fit, version-small, list-there, list-none, check-there, tail-length}

@@ -8,22 +8,11 @@ use lib.IntN.{ℤ, pos, negℤ}
 use lib.ListN.{length, take}
 use mir.Syntax.{w32}
 use mir.Val.{toZ}
+use Rattle.basis.specs.Front.{Front, incomplete, refuses, whole, ifWhole}
 use Rattle.types.specs.Answer.{Answer, got, refused}
 use Rattle.types.specs.Number.{be, part}
 use Rattle.types.specs.Read.{Place, place, Strings, strings, bytesIn, natural, stringsAt, textsIn, stringListAt}
 use Rattle.frame.specs.Header.{Header, headerLength, idLength, headerOf, knownVersion, knownOpcode, hasId, hasWarnings}
-
--- an envelope is not complete, or is refused with a number, or is there
-pub data Front (A : Type 0) : Type 0 where
-  incomplete : Front A
-  refuses : ℕ → Front A
-  whole : A → Front A
-
--- what else is found of an envelope that is there
-abbrev pub ifWhole : {A B : Type 0} → Front A → (A → Front B) → Front B
-ifWhole incomplete more = incomplete
-ifWhole (refuses number) more = refuses number
-ifWhole (whole value) more = more value
 
 -- ---- how long it is: up to 9
 

@@ -4,7 +4,8 @@ use mathlib.Core.Bool.{Bool, true, false}
 use Rattle.refusal.specs.Refusal.{numberOf}
 use Rattle.types.specs.Paper.{placeOf, stringsOf}
 use Rattle.frame.specs.Header.{Header}
-use Rattle.frame.specs.Envelope.{Envelope, Front, incomplete, refuses, whole}
+use Rattle.basis.specs.Front.{Front, incomplete, refuses, whole}
+use Rattle.frame.specs.Envelope.{Envelope}
 use Rattle.frame.specs.declared.Direction.{Direction}
 use Rattle.frame.specs.declared.Header as code-header
 use Rattle.frame.specs.declared.Envelope as code-envelope

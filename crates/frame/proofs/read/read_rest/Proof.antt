@@ -4,7 +4,8 @@ use mathlib.Core.Logic.{_⊎_, inl, inr}
 use native.Mathlib.Omega.{arith}
 use denote.Enum.Declared.{tagOf}
 use lib.ListN.{length}
-use Rattle.frame.specs.Envelope.{whole, readAs}
+use Rattle.basis.specs.Front.{whole}
+use Rattle.frame.specs.Envelope.{readAs}
 use Rattle.frame.specs.Inside.{paperWarnings}
 use Rattle.frame.specs.Paper.{paperHeader}
 use Rattle.frame.specs.declared.read.Warnings.{Warnings}
