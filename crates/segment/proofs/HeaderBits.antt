@@ -8,6 +8,10 @@ use borrow.Author.Tests.{eq-eqb, ne-eqb, eqb-true, eqb-false}
 use lib.Dec.{eqb}
 use Rattle.segment.specs.Header.{Form, short, long, Header, header, lengths, numberLength, selfWeight, uncompressedOf, uncompressedPart, fieldsOf, numberOf}
 
+pub number-most : (f : Form) → numberLength f ≤ 5
+number-most short = omega arith
+number-most long = omega arith
+
 pub weight-positive : (f : Form) → 0 < selfWeight f
 weight-positive short = omega arith
 weight-positive long = omega arith

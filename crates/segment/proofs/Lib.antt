@@ -2,3 +2,5 @@
 pub mod LittleEndian
 pub mod HeaderBits
 pub mod HeaderLaid
+pub mod Cases
+pub mod WrittenRead

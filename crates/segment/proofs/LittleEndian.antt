@@ -4,7 +4,7 @@ use mathlib.Core.Path.{_≡_, refl, sym, ap, ap₂, _∙_}
 use mathlib.Core.List.{List, [], _∷_, _++_, append-assoc}
 use native.Mathlib.Omega.{arith}
 use native.Mathlib.Numerals.{add-one}
-use native.Mathlib.Nat.{add-assoc, add-zero, pow-suc, zero-lt-suc, one-le-pow, mod-one, mod-eq-of-lt, not-suc-le-zero}
+use native.Mathlib.Nat.{add-assoc, add-zero, pow-suc, zero-lt-suc, one-le-pow, mod-one, mod-eq-of-lt, mod-lt}
 use lib.Arith.{digits-lt, mod-mul, digits-div, digits-mod}
 use lib.ListN.{length, take, drop, set, getD}
 use lib.Seq.{drop-cons, set-split, append-snoc}
@@ -29,6 +29,12 @@ pub length-le : (n x : ℕ) → length (leDigits n x) ≡ n
 unfolding leDigits
 length-le zero x = refl
 length-le (suc n) x = ap suc (length-le n (x / 256))
+
+pub bytes-le : (n x : ℕ) → Bytes (leDigits n x)
+unfolding leDigits
+bytes-le zero x i = zero-lt-suc 255
+bytes-le (suc n) x zero = mod-lt x (zero-lt-suc 255)
+bytes-le (suc n) x (suc i) = bytes-le n (x / 256) i
 
 -- written, then read
 pub le-digits : (n x : ℕ) → le (leDigits n x) ≡ x % 256 ^ n

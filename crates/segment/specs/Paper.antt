@@ -1,7 +1,10 @@
--- What the values of the code mean. Assumes nothing.
+-- What the values and answers of the code mean. Assumes nothing.
+use Rattle.basis.specs.Front.{Front, incomplete, refuses, whole}
+use Rattle.refusal.specs.Refusal.{numberOf}
 use Rattle.segment.specs.Header.{Form, short, long, Header, header}
 use Rattle.segment.specs.declared.Form as code-form
 use Rattle.segment.specs.declared.Header as code-header
+use Rattle.segment.specs.declared.ReadHeader.{ReadHeader}
 
 abbrev pub paperForm : code-form.Form → Form
 paperForm code-form.Form.Short = short
@@ -9,3 +12,8 @@ paperForm code-form.Form.Long = long
 
 abbrev pub paperHeader : code-header.Header → Header
 paperHeader h = header (h .payload) (h .uncompressed) (h .«self_contained»)
+
+abbrev pub paperReadHeader : ReadHeader → Front Header
+paperReadHeader ReadHeader.Incomplete = incomplete
+paperReadHeader (ReadHeader.Whole h) = whole (paperHeader h)
+paperReadHeader (ReadHeader.Refused e) = refuses (numberOf e)

@@ -1,11 +1,15 @@
--- A whole segment: docs/RULES.md, 3.5. Assumes nothing.
-use Prim.Native.Nat.{ℕ}
-use mathlib.Core.Bool.{Bool}
+-- A whole segment, written and read: docs/RULES.md, 3.5, and the checks of 6.5 and 6.6. Assumes nothing.
+use Prim.Native.Nat.{ℕ, _+_}
+use mathlib.Core.Bool.{Bool, cond}
 use mathlib.Core.List.{List, _++_}
-use lib.ListN.{length}
+use lib.Dec.{ltb, eqb}
+use lib.ListN.{length, take}
+use Rattle.basis.specs.Front.{Front, incomplete, refuses, whole, ifWhole}
+use Rattle.crc.specs.Check24.{crc24}
 use Rattle.crc.specs.Check32.{crc32}
-use Rattle.segment.specs.LittleEndian.{leDigits}
-use Rattle.segment.specs.Header.{Form, header, headerBytes}
+use Rattle.types.specs.Number.{part}
+use Rattle.segment.specs.LittleEndian.{le, leDigits}
+use Rattle.segment.specs.Header.{Form, Header, header, numberLength, checkLength, headerLength, fieldsOf, headerBytes}
 
 abbrev pub trailerLength : ℕ
 trailerLength = 4
@@ -14,9 +18,49 @@ trailerLength = 4
 abbrev pub maxPayload : ℕ
 maxPayload = 131071
 
+-- ---- written
+
 abbrev pub trailerBytes : List ℕ → List ℕ
 trailerBytes payload = leDigits trailerLength (crc32 payload)
 
 -- the payload as it is, between header and trailer
 unfoldable pub segmentBytes : Form → Bool → List ℕ → List ℕ
 segmentBytes form self payload = headerBytes form (header (length payload) 0 self) ++ (payload ++ trailerBytes payload)
+
+-- ---- read
+
+-- the payload is sent as it is where its length before compression is 0
+abbrev pub uncompressedOnly : Header → Front Header
+uncompressedOnly h = cond (eqb (h .uncompressed) 0) (whole h) (refuses 3)
+
+-- the number's bytes, the check behind them, and the number
+abbrev pub checked : Form → List ℕ → Bool
+checked form s = eqb (le (part s (numberLength form) checkLength)) (crc24 (take (numberLength form) s))
+
+unfoldable pub headerAt : Form → List ℕ → Front Header
+headerAt form s =
+    cond (ltb (length s) (headerLength form)) incomplete
+    (cond (checked form s) (uncompressedOnly (fieldsOf form (le (take (numberLength form) s))))
+    (refuses 2))
+
+-- whether it stands alone, and its payload
+pub record Segment : Type 0 where
+  pub self : Bool
+  pub payload : List ℕ
+
+abbrev pub segment : Bool → List ℕ → Segment
+segment self payload = record { self = self; payload = payload }
+
+abbrev pub segmentLength : Form → ℕ → ℕ
+segmentLength form payload = headerLength form + payload + trailerLength
+
+-- behind a header: the payload, and its check
+unfoldable pub payloadAt : Form → List ℕ → Header → Front Segment
+payloadAt form s h =
+    cond (ltb (length s) (segmentLength form (h .payload))) incomplete
+    (cond (eqb (le (part s (headerLength form + h .payload) trailerLength)) (crc32 (part s (headerLength form) (h .payload))))
+    (whole (segment (h .self) (part s (headerLength form) (h .payload))))
+    (refuses 5))
+
+unfoldable pub segmentAt : Form → List ℕ → Front Segment
+segmentAt form s = ifWhole (headerAt form s) (payloadAt form s)

@@ -1,8 +1,13 @@
 // The header of a segment in its two forms (the v5 document, Framing): fields and bytes.
 ghost use mathlib.Core.Path.{_≡_};
 ghost use mathlib.Core.Bool.{cond};
+ghost use Prim.Native.Nat.{_≤_};
+ghost use lib.ListN.{length};
 ghost use Rattle.segment.specs.Header.{numberLength, headerLength, selfWeight, uncompressedOf, uncompressedPart, fieldsOf, numberOf};
-ghost use Rattle.segment.specs.Paper.{paperForm, paperHeader};
+ghost use Rattle.segment.specs.Segment.{checked, headerAt};
+ghost use Rattle.segment.specs.Paper.{paperForm, paperHeader, paperReadHeader};
+use crc::crc24;
+use refusal::Refusal;
 
 pub mod inner;
 
@@ -26,6 +31,13 @@ pub struct Header {
     pub payload: u32,
     pub uncompressed: u32,
     pub self_contained: bool,
+}
+
+// A header at the front of some bytes.
+pub enum ReadHeader {
+    Incomplete,
+    Whole(Header),
+    Refused(Refusal),
 }
 
 // How many bytes of a header are its number; the others are the check of these.
@@ -104,4 +116,33 @@ pub fn number(form: Form, header: Header) -> u64
     let uncompressed = uncompressed_part(form, header.uncompressed);
     let contained = self_part(form, header.self_contained);
     payload + uncompressed + contained
+}
+
+// The check behind a header's number is that of its bytes.
+fn check_holds(form: Form, bytes: &[u8]) -> bool
+    requires { ⌜ headerLength (paperForm form) ≤ length (now bytes) ⌝ }
+    ensures { λ r. ⌜ r ≡ checked (paperForm form) (now (bytes .entry)) ⌝ }
+{
+    let n = number_len(form);
+    let read = inner::number(bytes, n, CHECK_LEN);
+    let computed = crc24(&bytes[..n]);
+    read == computed as u64
+}
+
+// The header at the front of the bytes, judged: 2, then 3.
+pub fn read_header(form: Form, bytes: &[u8]) -> ReadHeader
+    ensures { λ r. ⌜ paperReadHeader r ≡ headerAt (paperForm form) (now (bytes .entry)) ⌝ }
+{
+    if bytes.len() < header_len(form) {
+        return ReadHeader::Incomplete;
+    }
+    if check_holds(form, bytes) {
+        let x = inner::number(bytes, 0, number_len(form));
+        let header = fields(form, x);
+        if header.uncompressed == 0 {
+            return ReadHeader::Whole(header);
+        }
+        return ReadHeader::Refused(Refusal::PayloadCompressed);
+    }
+    ReadHeader::Refused(Refusal::HeaderCheckDiffers)
 }

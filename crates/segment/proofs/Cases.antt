@@ -1,0 +1,99 @@
+-- The definitions of reading, case by case: each case says what holds where it is met, and what holds says the case. Assumes nothing.
+use Prim.Native.Nat.{ℕ, _+_, _≤_, _<_}
+use mathlib.Core.Path.{_≡_, refl, sym, ap, _∙_, subst}
+use mathlib.Core.Bool.{Bool, true, false, cond}
+use mathlib.Core.List.{List}
+use borrow.Author.Tests.{lt-ltb, le-ltb, ltb-true, ltb-false}
+use lib.Dec.{ltb, eqb}
+use lib.ListN.{length, take}
+use Rattle.basis.specs.Front.{Front, incomplete, refuses, whole}
+use Rattle.crc.specs.Check32.{crc32}
+use Rattle.types.specs.Number.{part}
+use Rattle.segment.specs.LittleEndian.{le}
+use Rattle.segment.specs.Header.{Form, Header, numberLength, headerLength, fieldsOf}
+use Rattle.segment.specs.Segment.{trailerLength, checked, uncompressedOnly, headerAt, Segment, segment, segmentLength, payloadAt}
+
+-- ---- the header
+
+-- the fields of the number at the front
+abbrev pub fieldsAt : Form → List ℕ → Header
+fieldsAt f s = fieldsOf f (le (take (numberLength f) s))
+
+pub data Headers (f : Form) (s : List ℕ) : Front Header → Type 0 where
+  head-cut : length s < headerLength f → Headers f s incomplete
+  head-differs : headerLength f ≤ length s → checked f s ≡ false → Headers f s (refuses 2)
+  head-compressed : headerLength f ≤ length s → checked f s ≡ true → eqb (fieldsAt f s .uncompressed) 0 ≡ false → Headers f s (refuses 3)
+  head-good : headerLength f ≤ length s → checked f s ≡ true → eqb (fieldsAt f s .uncompressed) 0 ≡ true → Headers f s (whole (fieldsAt f s))
+
+module _ (f : Form) (s : List ℕ) where
+  there : headerLength f ≤ length s → headerAt f s ≡ cond (checked f s) (uncompressedOnly (fieldsAt f s)) (refuses 2)
+  unfolding headerAt
+  there h = ap (λ (t : Bool). cond t incomplete (cond (checked f s) (uncompressedOnly (fieldsAt f s)) (refuses 2))) (le-ltb (length s) (headerLength f) h)
+
+  passed : headerLength f ≤ length s → checked f s ≡ true → headerAt f s ≡ uncompressedOnly (fieldsAt f s)
+  passed h c = there h ∙ ap (λ (t : Bool). cond t (uncompressedOnly (fieldsAt f s)) (refuses 2)) c
+
+  pub header-is : {r : Front Header} → Headers f s r → headerAt f s ≡ r
+  unfolding headerAt
+  header-is (head-cut h) = ap (λ (t : Bool). cond t incomplete (cond (checked f s) (uncompressedOnly (fieldsAt f s)) (refuses 2))) (lt-ltb (length s) (headerLength f) h)
+  header-is (head-differs h c) = there h ∙ ap (λ (t : Bool). cond t (uncompressedOnly (fieldsAt f s)) (refuses 2)) c
+  header-is (head-compressed h c u) = passed h c ∙ ap (λ (t : Bool). cond t (whole (fieldsAt f s)) (refuses 3)) u
+  header-is (head-good h c u) = passed h c ∙ ap (λ (t : Bool). cond t (whole (fieldsAt f s)) (refuses 3)) u
+
+  pub header-case : Headers f s (headerAt f s)
+  header-case = by-length (ltb (length s) (headerLength f)) refl
+    where
+      met : {r : Front Header} → Headers f s r → Headers f s (headerAt f s)
+      met {r} c = subst (λ (x : Front Header). Headers f s x) (sym (header-is c)) c
+
+      by-compression : headerLength f ≤ length s → checked f s ≡ true → (t : Bool) → eqb (fieldsAt f s .uncompressed) 0 ≡ t → Headers f s (headerAt f s)
+      by-compression h c true u = met (head-good h c u)
+      by-compression h c false u = met (head-compressed h c u)
+
+      by-check : headerLength f ≤ length s → (t : Bool) → checked f s ≡ t → Headers f s (headerAt f s)
+      by-check h true c = by-compression h c (eqb (fieldsAt f s .uncompressed) 0) refl
+      by-check h false c = met (head-differs h c)
+
+      by-length : (t : Bool) → ltb (length s) (headerLength f) ≡ t → Headers f s (headerAt f s)
+      by-length true l = met (head-cut (ltb-true (length s) (headerLength f) l))
+      by-length false l = by-check (ltb-false (length s) (headerLength f) l) (checked f s) refl
+
+-- ---- the payload behind it
+
+abbrev pub payloadIn : Form → List ℕ → Header → List ℕ
+payloadIn f s h = part s (headerLength f) (h .payload)
+
+abbrev pub trailed : Form → List ℕ → Header → Bool
+trailed f s h = eqb (le (part s (headerLength f + h .payload) trailerLength)) (crc32 (payloadIn f s h))
+
+pub data Payloads (f : Form) (s : List ℕ) (h : Header) : Front Segment → Type 0 where
+  payload-cut : length s < segmentLength f (h .payload) → Payloads f s h incomplete
+  payload-differs : segmentLength f (h .payload) ≤ length s → trailed f s h ≡ false → Payloads f s h (refuses 5)
+  payload-good : segmentLength f (h .payload) ≤ length s → trailed f s h ≡ true → Payloads f s h (whole (segment (h .self) (payloadIn f s h)))
+
+module _ (f : Form) (s : List ℕ) (h : Header) where
+  complete : segmentLength f (h .payload) ≤ length s → payloadAt f s h ≡ cond (trailed f s h) (whole (segment (h .self) (payloadIn f s h))) (refuses 5)
+  unfolding payloadAt
+  complete l =
+      ap (λ (t : Bool). cond t incomplete (cond (trailed f s h) (whole (segment (h .self) (payloadIn f s h))) (refuses 5))) (le-ltb (length s) (segmentLength f (h .payload)) l)
+
+  pub payload-is : {r : Front Segment} → Payloads f s h r → payloadAt f s h ≡ r
+  unfolding payloadAt
+  payload-is (payload-cut l) =
+      ap (λ (t : Bool). cond t incomplete (cond (trailed f s h) (whole (segment (h .self) (payloadIn f s h))) (refuses 5))) (lt-ltb (length s) (segmentLength f (h .payload)) l)
+  payload-is (payload-differs l c) = complete l ∙ ap (λ (t : Bool). cond t (whole (segment (h .self) (payloadIn f s h))) (refuses 5)) c
+  payload-is (payload-good l c) = complete l ∙ ap (λ (t : Bool). cond t (whole (segment (h .self) (payloadIn f s h))) (refuses 5)) c
+
+  pub payload-case : Payloads f s h (payloadAt f s h)
+  payload-case = by-length (ltb (length s) (segmentLength f (h .payload))) refl
+    where
+      met : {r : Front Segment} → Payloads f s h r → Payloads f s h (payloadAt f s h)
+      met {r} c = subst (λ (x : Front Segment). Payloads f s h x) (sym (payload-is c)) c
+
+      by-check : segmentLength f (h .payload) ≤ length s → (t : Bool) → trailed f s h ≡ t → Payloads f s h (payloadAt f s h)
+      by-check l true c = met (payload-good l c)
+      by-check l false c = met (payload-differs l c)
+
+      by-length : (t : Bool) → ltb (length s) (segmentLength f (h .payload)) ≡ t → Payloads f s h (payloadAt f s h)
+      by-length true l = met (payload-cut (ltb-true (length s) (segmentLength f (h .payload)) l))
+      by-length false l = by-check (ltb-false (length s) (segmentLength f (h .payload)) l) (trailed f s h) refl
