@@ -4,3 +4,6 @@ pub mod HeaderBits
 pub mod HeaderLaid
 pub mod Cases
 pub mod WrittenRead
+pub mod ReadWritten
+pub mod Told
+pub mod Determined

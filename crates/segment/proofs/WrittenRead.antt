@@ -1,5 +1,5 @@
 -- A header or a segment that was written is read back, whatever follows it. Assumes nothing.
-use Prim.Native.Nat.{ℕ, _+_, _^_, _≤_, _<_}
+use Prim.Native.Nat.{ℕ, _+_, _≤_}
 use mathlib.Core.Path.{_≡_, refl, sym, ap, ap₂, _∙_, subst}
 use mathlib.Core.Bool.{Bool, true}
 use mathlib.Core.List.{List, _++_}
@@ -7,7 +7,7 @@ use native.Mathlib.Nat.{zero-add, lt-of-lt-of-le}
 use native.Mathlib.Omega.{arith}
 use borrow.Author.Tests.{eq-eqb}
 use lib.Dec.{eqb}
-use lib.ListN.{length, take, length-append}
+use lib.ListN.{length, take}
 use Rattle.basis.specs.Front.{Front, whole, ifWhole}
 use Rattle.crc.specs.Check24.{crc24}
 use Rattle.crc.specs.Check32.{crc32}
@@ -17,8 +17,8 @@ use Rattle.basis.specs.Bytes.{Bytes}
 use Rattle.types.specs.Number.{part}
 use Rattle.types.proofs.Holds.{Holds, holds-left, holds-right}
 use Rattle.segment.specs.LittleEndian.{le, leDigits}
-use Rattle.segment.specs.Header.{Form, short, Header, header, lengths, numberLength, checkLength, headerLength, fieldsOf, numberOf, headerNumber, headerBytes}
-use Rattle.segment.specs.Segment.{trailerLength, maxPayload, trailerBytes, segmentBytes, checked, headerAt, Segment, segment, segmentLength, payloadAt, segmentAt}
+use Rattle.segment.specs.Header.{Form, Header, header, numberLength, checkLength, headerLength, fieldsOf, numberOf, headerNumber, headerBytes}
+use Rattle.segment.specs.Segment.{trailerLength, maxPayload, trailerBytes, segmentBytes, checked, headerAt, segment, payloadAt, segmentAt}
 use Rattle.segment.proofs.LittleEndian.{length-le, bytes-le, le-digits-fit}
 use Rattle.segment.proofs.HeaderBits.{Fits, number-below, used-within, fields-back}
 use Rattle.segment.proofs.HeaderLaid.{number-length, header-length}

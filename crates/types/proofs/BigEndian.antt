@@ -47,7 +47,7 @@ part-of s at n = ap (λ (k : ℕ). take k (drop at s)) (add-sub-cancel-left at n
 pub length-part : (s : List ℕ) (at n : ℕ) → at + n ≤ length s → length (part s at n) ≡ n
 length-part s at n h = length-take-le n (drop at s) (simp length-drop (omega arith))
 
-bytes-take : (n : ℕ) (s : List ℕ) → Bytes s → Bytes (take n s)
+pub bytes-take : (n : ℕ) (s : List ℕ) → Bytes s → Bytes (take n s)
 bytes-take zero s b i = zero-lt-suc 255
 bytes-take (suc n) [] b i = b i
 bytes-take (suc n) (x ∷ s) b zero = b zero

@@ -1,7 +1,6 @@
 -- `segment::check_holds` meets its contract: the bytes that are checked are those of the number. Assumes nothing.
 use Prim.Native.Nat.{ℕ}
 use mathlib.Core.Path.{sym, ap, ap₂, _∙_}
-use native.Mathlib.Omega.{arith}
 use lib.Dec.{eqb}
 use lib.ListN.{take}
 use lib.Seq.{length-take-le}

@@ -1,6 +1,6 @@
 -- `segment::number` meets its contract: the fields have bits of their own. Assumes nothing.
-use Prim.Native.Nat.{ℕ, _+_, _%_, _≤_}
-use mathlib.Core.Path.{ap₂, _∙_}
+use Prim.Native.Nat.{ℕ, _+_, _%_}
+use mathlib.Core.Path.{ap₂}
 use native.Mathlib.Omega.{arith}
 use Rattle.segment.specs.Header.{lengths, numberOf}
 use Rattle.segment.specs.Paper.{paperForm}

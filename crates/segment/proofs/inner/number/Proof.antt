@@ -1,5 +1,5 @@
 -- `segment::inner::number` meets its contract: the value is the number of the bytes from the place reached on, which so many bytes hold. Assumes nothing.
-use Prim.Native.Nat.{ℕ, suc, _≤_, _<_, _-_, _+_, _*_, _^_}
+use Prim.Native.Nat.{ℕ, _≤_, _<_, _-_, _+_, _*_, _^_}
 use mathlib.Core.Path.{_≡_, sym, ap₂, _∙_, subst}
 use borrow.Author.Needs.{needs}
 use native.Mathlib.Omega.{arith}

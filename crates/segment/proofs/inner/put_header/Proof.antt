@@ -1,8 +1,6 @@
 -- `segment::inner::put_header` meets its contract: the check is that of the number, which then stands there. Assumes nothing.
 use Prim.Native.Nat.{ℕ}
-use mathlib.Core.Path.{sym, ap, ap₂, _∙_, subst}
-use mathlib.Core.List.{List}
-use native.Mathlib.Omega.{arith}
+use mathlib.Core.Path.{sym, ap, ap₂, _∙_}
 use lib.ListN.{take}
 use lib.Seq.{length-take-le}
 use Rattle.crc.specs.Check24.{crc24}

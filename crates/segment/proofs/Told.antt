@@ -1,0 +1,33 @@
+-- What an answer means says the answer. Assumes nothing.
+use mathlib.Core.Path.{_≡_, refl, ap}
+use Rattle.basis.specs.Front.{Front, incomplete, refuses, whole}
+use Rattle.basis.proofs.Determined.{Tells}
+use Rattle.refusal.proofs.Numbers.{refusalOf, refusalOf-number}
+use Rattle.segment.specs.Header.{Header}
+use Rattle.segment.specs.Paper.{paperHeader, paperReadHeader}
+use Rattle.segment.specs.declared.Header as code-header
+use Rattle.segment.specs.declared.ReadHeader.{ReadHeader}
+
+headerFrom : Header → code-header.Header
+headerFrom h = record { payload = h .payload; uncompressed = h .uncompressed; «self_contained» = h .self }
+
+header-is : (h : code-header.Header) → headerFrom (paperHeader h) ≡ h
+unfolding headerFrom
+header-is h = refl
+
+pub header-told : Tells paperHeader
+header-told = record { back = headerFrom; is = header-is }
+
+read-of : Front Header → ReadHeader
+read-of incomplete = ReadHeader.Incomplete
+read-of (refuses number) = ReadHeader.Refused (refusalOf number)
+read-of (whole h) = ReadHeader.Whole (headerFrom h)
+
+read-is : (r : ReadHeader) → read-of (paperReadHeader r) ≡ r
+unfolding read-of
+read-is ReadHeader.Incomplete = refl
+read-is (ReadHeader.Whole h) = ap ReadHeader.Whole (header-is h)
+read-is (ReadHeader.Refused e) = ap ReadHeader.Refused (refusalOf-number e)
+
+pub read-header-told : Tells paperReadHeader
+read-header-told = record { back = read-of; is = read-is }
