@@ -1,0 +1,3 @@
+-- What the segment writer does: docs/RULES.md, section 8.
+pub mod Writer
+pub mod Paper
