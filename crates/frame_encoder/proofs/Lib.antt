@@ -1,3 +1,5 @@
 -- Laws that belong to no one function.
 pub mod Checked
 pub mod Laid
+pub mod Told
+pub mod Determined

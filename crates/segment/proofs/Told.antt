@@ -3,10 +3,23 @@ use mathlib.Core.Path.{_≡_, refl, ap}
 use Rattle.basis.specs.Front.{Front, incomplete, refuses, whole}
 use Rattle.basis.proofs.Determined.{Tells}
 use Rattle.refusal.proofs.Numbers.{refusalOf, refusalOf-number}
-use Rattle.segment.specs.Header.{Header}
-use Rattle.segment.specs.Paper.{paperHeader, paperReadHeader}
+use Rattle.segment.specs.Header.{Form, short, long, Header}
+use Rattle.segment.specs.Paper.{paperForm, paperHeader, paperReadHeader}
+use Rattle.segment.specs.declared.Form as code-form
 use Rattle.segment.specs.declared.Header as code-header
 use Rattle.segment.specs.declared.ReadHeader.{ReadHeader}
+
+formFrom : Form → code-form.Form
+formFrom short = code-form.Form.Short
+formFrom long = code-form.Form.Long
+
+form-is : (f : code-form.Form) → formFrom (paperForm f) ≡ f
+unfolding formFrom
+form-is code-form.Form.Short = refl
+form-is code-form.Form.Long = refl
+
+pub form-told : Tells paperForm
+form-told = record { back = formFrom; is = form-is }
 
 headerFrom : Header → code-header.Header
 headerFrom h = record { payload = h .payload; uncompressed = h .uncompressed; «self_contained» = h .self }

@@ -1,0 +1,46 @@
+-- Each public function's contract leaves nothing open: a line for each. Of those that write, the answer and what the output then holds.
+-- Assumes nothing.
+use Prim.Native.Nat.{ℕ}
+use mathlib.Core.Path.{_≡_, sym, _∙_}
+use mathlib.Core.List.{List}
+use lib.Dec.{ltb}
+use Rattle.basis.specs.Determined.{Determined, DeterminedAs}
+use Rattle.basis.proofs.Determined.{by-equation, by-meaning}
+use Rattle.segment.specs.Paper.{paperForm}
+use Rattle.frame_encoder.specs.Writer.{Done, fresh, fits, add, finish, piece}
+use Rattle.frame_encoder.specs.Paper.{paperWriter, paperStep}
+use Rattle.frame_encoder.specs.declared.Step.{Step}
+use Rattle.frame_encoder.proofs.Told.{encoder-told, Outcome, step-apart}
+use Rattle.frame_encoder.proofs.FrameEncoder.new.Reads as news
+use Rattle.frame_encoder.proofs.FrameEncoder.can_fit.Reads as fittings
+use Rattle.frame_encoder.proofs.FrameEncoder.has_envelopes.Reads as havings
+use Rattle.frame_encoder.proofs.FrameEncoder.reset.Reads as resets
+use Rattle.frame_encoder.proofs.FrameEncoder.add_envelope.Reads as adds
+use Rattle.frame_encoder.proofs.FrameEncoder.finalize_self_contained.Reads as finishes
+use Rattle.frame_encoder.proofs.FrameEncoder.finalize_non_self_contained.Reads as pieces
+
+pub new-determined : Determined news.Post
+new-determined = by-meaning encoder-told (λ κs a. fresh (paperForm (a .0)))
+
+pub can-fit-determined : Determined fittings.Post
+can-fit-determined = by-equation (λ κs a. fits (paperWriter (a .0)) (a .1 .0))
+
+pub has-envelopes-determined : Determined havings.Post
+has-envelopes-determined = by-equation (λ κs a. ltb 0 (a .0 .payload))
+
+pub reset-determined : Determined resets.Post
+reset-determined = by-meaning encoder-told (λ κs a. fresh (paperForm (a .0 .form)))
+
+by-step {ℓ} :
+    {Lifetimes : Type ℓ} {Arguments Exit : Lifetimes → Type 0} (left : (κs : Lifetimes) → Exit κs → List ℕ) (does : (κs : Lifetimes) → Arguments κs → Done)
+    → DeterminedAs {Answer = λ κs. Step} {Seen = Outcome} (λ κs r e. (r, left κs e)) (λ κs a r e. paperStep r (left κs e) ≡ does κs a)
+by-step left does = record { same = λ κs a r s e f p q. step-apart r s (left κs e) (left κs f) (p ∙ sym q) }
+
+pub add-envelope-determined : DeterminedAs {Seen = Outcome} (λ κs r e. (r, e .1 .0 .now)) adds.Post
+add-envelope-determined = by-step (λ κs e. e .1 .0 .now) (λ κs a. add (paperWriter (a .0)) (a .1 .0 .now) (a .1 .1 .0 .now))
+
+pub finalize-self-contained-determined : DeterminedAs {Seen = Outcome} (λ κs r e. (r, e .1 .0 .now)) finishes.Post
+finalize-self-contained-determined = by-step (λ κs e. e .1 .0 .now) (λ κs a. finish (paperWriter (a .0)) (a .1 .0 .now))
+
+pub finalize-non-self-contained-determined : DeterminedAs {Seen = Outcome} (λ κs r e. (r, e .1 .0 .now)) pieces.Post
+finalize-non-self-contained-determined = by-step (λ κs e. e .1 .0 .now) (λ κs a. piece (paperWriter (a .0)) (a .1 .0 .now) (a .1 .1 .0 .now))
