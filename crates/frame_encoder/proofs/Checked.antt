@@ -85,6 +85,13 @@ pub piece-front : (n : ℕ) → maxPayload < n → pieceOf n ≡ maxPayload
 unfolding pieceOf
 piece-front n h = ap (λ (t : Bool). cond t n maxPayload) (lt-leb n maxPayload h)
 
+pub piece-most : (n : ℕ) → (pieceOf n ≤ n) × (pieceOf n ≤ maxPayload)
+piece-most n =
+    elim (decLe n maxPayload) [
+      | yes h ↦ let e = piece-all n h in (omega (arith, e), omega (arith, e))
+      | no h ↦ let k : maxPayload < n = lt-of-not-le h in let e = piece-front n k in (omega (arith, e), omega (arith, e))
+    ]
+
 -- ---- what a call leaves
 
 pub unless-fine : {c : Check} (w : Writer) (out : List ℕ) (d : Done) → c ≡ fine → unless c w out d ≡ d

@@ -1,0 +1,19 @@
+-- Calls of a segment writer, one after the other. Assumes nothing.
+use Prim.Native.Nat.{ℕ, _<_}
+use mathlib.Core.Path.{_≡_}
+use mathlib.Core.List.{List, [], _∷_}
+use lib.ListN.{length, drop}
+use Rattle.segment.specs.Header.{Form}
+use Rattle.frame_encoder.specs.Writer.{Writer, fresh, wrote, done, add, piece}
+
+-- envelopes are added, and each is accepted: from one writer and output to another
+pub data Added : Writer → List ℕ → List (List ℕ) → Writer → List ℕ → Type 0 where
+  none-added : {w : Writer} {out : List ℕ} → Added w out [] w out
+  one-added : {w v u : Writer} {out mid end envelope : List ℕ} {envelopes : List (List ℕ)} {size taken : ℕ}
+      → add w out envelope ≡ done v (wrote size taken) mid → Added v mid envelopes u end → Added w out (envelope ∷ envelopes) u end
+
+-- an envelope is made into pieces, each from where the one before ended and into an output of its own, until nothing is left: the outputs
+pub data Split (form : Form) : List ℕ → List (List ℕ) → Type 0 where
+  all-sent : Split form [] []
+  one-sent : (out : List ℕ) {w : Writer} {end envelope : List ℕ} {size taken : ℕ} {others : List (List ℕ)}
+      → 0 < length envelope → piece (fresh form) out envelope ≡ done w (wrote size taken) end → Split form (drop taken envelope) others → Split form envelope (end ∷ others)
