@@ -10,4 +10,3 @@ pub mod WrittenRead
 pub mod ReadWritten
 pub mod Told
 pub mod Determined
-pub mod Examples

@@ -1,0 +1,34 @@
+-- What an example is about, and what the definitions say of it. Assumes nothing.
+use Prim.Native.Nat.{ℕ}
+use mathlib.Core.Bool.{Bool}
+use mathlib.Core.List.{List}
+use Rattle.basis.specs.Front.{Front, whole, ifWhole}
+use Rattle.crc.specs.Check24.{crc24}
+use Rattle.segment.specs.Header.{Form, header, headerNumber}
+use Rattle.frame.specs.Envelope.{Envelope, envelope, idIn, bodyIn, warningsIn}
+
+-- an envelope, its tracing id, its warnings and its body
+pub record Seen : Type 0 where
+  pub envelope : Envelope
+  pub id : List ℕ
+  pub warnings : List (List ℕ)
+  pub body : List ℕ
+
+unfoldable pub seen : List ℕ → Front Seen
+seen s = ifWhole (envelope s) (λ e. whole (record { envelope = e; id = idIn s e; warnings = warningsIn s e; body = bodyIn s e }))
+
+pub data Example : Type 0 where
+  -- the bytes that a header with this payload length begins with
+  header-of : Form → ℕ → Bool → Example
+  crc24-of : List ℕ → Example
+  front-of : List ℕ → Example
+
+pub data Shown : Type 0 where
+  begins : List ℕ → Shown
+  check : ℕ → Shown
+  reads : Front Seen → Shown
+
+unfoldable pub shown : Example → Shown
+shown (header-of form payload self) = begins (headerNumber form (header payload 0 self))
+shown (crc24-of s) = check (crc24 s)
+shown (front-of s) = reads (seen s)
