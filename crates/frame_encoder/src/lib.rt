@@ -10,8 +10,8 @@ ghost use Rattle.types.specs.Write.{put};
 ghost use Rattle.segment.specs.Header.{headerLength};
 ghost use Rattle.segment.specs.Segment.{segmentLength, segmentBytes};
 ghost use Rattle.segment.specs.Paper.{paperForm};
-ghost use Rattle.frame_encoder.specs.Writer.{fresh, fits, addCheck, add, finishCheck, finish, pieceOf, pieceCheck, piece};
-ghost use Rattle.frame_encoder.specs.Paper.{paperWriter, paperStep};
+ghost use Rattle.frame_encoder.specs.Writer.{done, fresh, fits, addCheck, add, finishCheck, finish, pieceOf, pieceCheck, piece};
+ghost use Rattle.frame_encoder.specs.Paper.{paperWriter, paperEncoded, paperStep};
 use crc::crc32;
 use refusal::Refusal;
 use segment::Form;
@@ -222,5 +222,37 @@ impl FrameEncoder {
                 answer: Encoded::Refused(e),
             },
         }
+    }
+
+    // The Rust's outer shape: the writer is lent, and the next one is stored in its place.
+
+    pub fn reset_mut(&mut self)
+        ensures { λ _. ⌜ paperWriter (now (self .exit)) ≡ fresh (paperForm (now (self .entry) .form)) ⌝ }
+    {
+        *self = self.reset();
+    }
+
+    pub fn add_envelope_mut(&mut self, out: &mut [u8], envelope: &[u8]) -> Encoded
+        ensures { λ r. ⌜ done (paperWriter (now (self .exit))) (paperEncoded r) (now (out .exit)) ≡ add (paperWriter (now (self .entry))) (now (out .entry)) (now (envelope .entry)) ⌝ }
+    {
+        let t = self.add_envelope(out, envelope);
+        *self = t.encoder;
+        t.answer
+    }
+
+    pub fn finalize_self_contained_mut(&mut self, out: &mut [u8]) -> Encoded
+        ensures { λ r. ⌜ done (paperWriter (now (self .exit))) (paperEncoded r) (now (out .exit)) ≡ finish (paperWriter (now (self .entry))) (now (out .entry)) ⌝ }
+    {
+        let t = self.finalize_self_contained(out);
+        *self = t.encoder;
+        t.answer
+    }
+
+    pub fn finalize_non_self_contained_mut(&mut self, out: &mut [u8], envelope: &[u8]) -> Encoded
+        ensures { λ r. ⌜ done (paperWriter (now (self .exit))) (paperEncoded r) (now (out .exit)) ≡ piece (paperWriter (now (self .entry))) (now (out .entry)) (now (envelope .entry)) ⌝ }
+    {
+        let t = self.finalize_non_self_contained(out, envelope);
+        *self = t.encoder;
+        t.answer
     }
 }
