@@ -1,19 +1,18 @@
 -- What the checks of a segment writer say, and what is known where they have passed. Assumes nothing.
 use Prim.Native.Nat.{ℕ, _+_, _-_, _≤_, _<_}
-use mathlib.Core.Path.{_≡_, refl, sym, ap, _∙_}
+use mathlib.Core.Path.{_≡_, sym, ap, _∙_}
 use mathlib.Core.Bool.{Bool, true, false, cond}
 use mathlib.Core.List.{List}
 use native.Mathlib.Decide.{decLe}
 use native.Mathlib.Nat.{lt-of-not-le}
 use native.Mathlib.Omega.{arith}
 use borrow.Author.Tests.{le-leb, lt-leb, lt-ltb, le-ltb, leb-true, ltb-true, eqb-true}
-use lib.Dec.{leb, ltb, eqb}
-use lib.ListN.{length}
+use lib.Dec.{leb, eqb}
 use Rattle.types.specs.Write.{Check, fine, against}
 use Rattle.types.proofs.Cut.{demand-fine}
 use Rattle.segment.specs.Header.{Form, short, long, headerLength, lengths}
 use Rattle.segment.specs.Segment.{maxPayload, segmentLength}
-use Rattle.frame_encoder.specs.Writer.{Writer, writer, Done, done, Reply, refused, unless, fits, roomFor, addCheck, add, finishCheck, finish, pieceOf, pieceCheck, piece}
+use Rattle.frame_encoder.specs.Writer.{Writer, Done, done, refused, unless, fits, roomFor, addCheck, finishCheck, pieceOf, pieceCheck}
 
 pub head-most : (f : Form) → headerLength f ≤ 8
 head-most short = omega arith

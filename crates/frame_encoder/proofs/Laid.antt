@@ -1,12 +1,12 @@
 -- Header and trailer around what stands in an output are the segment of it. Assumes nothing.
 use Prim.Native.Nat.{ℕ, _+_, _-_, _≤_}
-use mathlib.Core.Path.{_≡_, refl, sym, ap, ap₂, _∙_, subst}
+use mathlib.Core.Path.{_≡_, sym, ap, ap₂, _∙_, subst}
 use mathlib.Core.Bool.{Bool}
 use mathlib.Core.List.{List, _++_, append-assoc}
 use native.Mathlib.Nat.{zero-add}
 use native.Mathlib.Omega.{arith}
 use lib.ListN.{length, take, drop, length-append}
-use lib.Seq.{drop-at, drop-drop, drop-append-add}
+use lib.Seq.{drop-drop, drop-append-add}
 use Rattle.crc.specs.Check32.{crc32}
 use Rattle.types.specs.Number.{part}
 use Rattle.types.specs.Write.{put}
@@ -14,7 +14,7 @@ use Rattle.types.proofs.BigEndian.{length-part}
 use Rattle.types.proofs.Put.{length-front, length-put, put-then}
 use Rattle.types.proofs.Holds.{Holds, holds-part, holds-put, put-same}
 use Rattle.segment.specs.LittleEndian.{leDigits}
-use Rattle.segment.specs.Header.{Form, Header, header, headerLength, headerBytes}
+use Rattle.segment.specs.Header.{Form, header, headerLength, headerBytes}
 use Rattle.segment.specs.Segment.{trailerLength, trailerBytes, segmentLength, segmentBytes}
 use Rattle.segment.proofs.LittleEndian.{length-le}
 use Rattle.segment.proofs.HeaderLaid.{header-length}

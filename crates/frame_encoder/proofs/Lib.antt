@@ -1,7 +1,6 @@
 -- Laws that belong to no one function.
 pub mod Checked
 pub mod Laid
-pub mod Thin
 pub mod Runs
 pub mod Told
 pub mod Determined

@@ -1,9 +1,9 @@
 -- What runs of calls leave: packed envelopes are one segment, and a split envelope is segments that join to it. Assumes nothing.
-use Prim.Native.Nat.{ℕ, _+_, _≤_, _<_}
-use mathlib.Core.Path.{_≡_, refl, sym, ap, ap₂, _∙_, subst}
+use Prim.Native.Nat.{ℕ, _+_, _≤_}
+use mathlib.Core.Path.{_≡_, refl, sym, ap, _∙_, subst}
 use mathlib.Core.Bool.{Bool, true, false}
-use mathlib.Core.List.{List, [], _∷_, _++_, append-nil}
-use native.Mathlib.Nat.{add-zero, add-assoc, zero-add}
+use mathlib.Core.List.{List, [], _∷_, _++_}
+use native.Mathlib.Nat.{add-zero, zero-add}
 use native.Mathlib.Omega.{arith}
 use lib.ListN.{length, take, drop, length-append, take-append-drop}
 use lib.Seq.{length-take-le}
@@ -13,7 +13,7 @@ use Rattle.types.specs.Write.{put, Check, fine, against, joined}
 use Rattle.types.proofs.Put.{put-none, put-put, length-put}
 use Rattle.types.proofs.Holds.{Holds, holds-put}
 use Rattle.segment.specs.Header.{Form, headerLength}
-use Rattle.segment.specs.Segment.{maxPayload, segmentLength, segmentBytes, Segment, segment, segmentAt}
+use Rattle.segment.specs.Segment.{maxPayload, segmentLength, segmentBytes, segment, segmentAt}
 use Rattle.segment.proofs.WrittenRead.{segment-back}
 use Rattle.frame_encoder.specs.Writer.{Writer, writer, fresh, Reply, wrote, refused, Done, done, unless, addCheck, add, finishCheck, finish, pieceOf, pieceCheck, piece}
 use Rattle.frame_encoder.specs.Runs.{Added, none-added, one-added, Split, all-sent, one-sent}

@@ -2,10 +2,10 @@
 use Prim.Native.Nat.{ℕ}
 use mathlib.Core.Path.{_≡_, refl, sym, ap, ap₂, _∙_}
 use mathlib.Core.List.{List}
-use Rattle.basis.proofs.Determined.{Tells, told-apart}
+use Rattle.basis.proofs.Determined.{Tells}
 use Rattle.refusal.proofs.Numbers.{refusalOf, refusalOf-number}
 use Rattle.segment.proofs.Told.{form-told}
-use Rattle.frame_encoder.specs.Writer.{Writer, writer, Reply, wrote, refused, Done}
+use Rattle.frame_encoder.specs.Writer.{Writer, Reply, wrote, refused, Done}
 use Rattle.frame_encoder.specs.Paper.{paperWriter, paperEncoded, paperStep}
 use Rattle.frame_encoder.specs.declared.FrameEncoder.{FrameEncoder}
 use Rattle.frame_encoder.specs.declared.Encoded.{Encoded}

@@ -3,7 +3,7 @@
 ghost use mathlib.Core.Path.{_≡_};
 ghost use Prim.Native.Nat.{_+_, _≤_};
 ghost use lib.Dec.{ltb, leb};
-ghost use lib.ListN.{length, take};
+ghost use lib.ListN.{length};
 ghost use Rattle.types.specs.Number.{part};
 ghost use Rattle.types.specs.Paper.{paperWritable};
 ghost use Rattle.types.specs.Write.{put};

@@ -1,6 +1,6 @@
 -- `frame_encoder::close` meets its contract: the check is that of the payload, which stays where it stands. Assumes nothing.
 use Prim.Native.Nat.{ℕ, _+_}
-use mathlib.Core.Path.{ap, ap₂, _∙_}
+use mathlib.Core.Path.{ap, _∙_}
 use Rattle.crc.specs.Check32.{crc32}
 use Rattle.types.specs.Number.{part}
 use Rattle.types.specs.Write.{put}

@@ -2,7 +2,6 @@
 use Prim.Native.Nat.{ℕ, _+_, _≤_}
 use mathlib.Core.Path.{sym, ap, ap₂, _∙_, subst}
 use mathlib.Core.Bool.{false}
-use mathlib.Core.List.{List}
 use native.Mathlib.Omega.{arith}
 use lib.ListN.{length, take}
 use lib.Seq.{length-take-le}
@@ -10,7 +9,7 @@ use Rattle.types.specs.Paper.{paperWritable}
 use Rattle.types.specs.Write.{put}
 use Rattle.segment.specs.Segment.{segmentLength, segmentBytes}
 use Rattle.segment.specs.Paper.{paperForm}
-use Rattle.frame_encoder.specs.Writer.{Writer, fresh, wrote, done, pieceOf, piece}
+use Rattle.frame_encoder.specs.Writer.{Writer, fresh, wrote, done, piece}
 use Rattle.frame_encoder.specs.Paper.{paperWriter}
 use Rattle.frame_encoder.proofs.Checked.{head-most, piece-fine, unless-fine, unless-against}
 use Rattle.frame_encoder.proofs.Laid.{piece-laid}

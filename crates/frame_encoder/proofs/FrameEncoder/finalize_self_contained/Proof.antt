@@ -1,7 +1,6 @@
 -- `frame_encoder::FrameEncoder::finalize_self_contained` meets its contract: what the check allows, or nothing. Assumes nothing.
 use Prim.Native.Nat.{ℕ, _+_}
 use mathlib.Core.Path.{sym, ap, ap₂, _∙_}
-use mathlib.Core.List.{List}
 use native.Mathlib.Omega.{arith}
 use lib.ListN.{length}
 use Rattle.types.specs.Paper.{paperWritable}

@@ -1,6 +1,5 @@
--- `frame_encoder::FrameEncoder::finalize_self_contained_mut` meets its contract: a walk of its MIR, by hand. The borrow is opened and the state copied out whole; `finalize_self_contained` is called with the copy and with the other parameters as they came; the state that it returns is stored whole, and the borrow is closed at it.
--- The other parameters are given up to the call: what the call says of each at exit is what this function says of it. All that the proof knows of the call is that it meets its contract. `proofs/Thin.antt` has the steps.
--- Assumes nothing.
+-- `frame_encoder::FrameEncoder::finalize_self_contained_mut` meets its contract: the writer is copied out of its place, `finalize_self_contained` makes the next one of it, and that is stored
+-- there; step by step through the body, since a reference to a struct is not covered by the prover's own walk. Assumes nothing.
 use mathlib.Core.Path.{_≡_, refl}
 use Prim.Native.Nat.{ℕ}
 use mathlib.Core.List.{[], _∷_, List}
@@ -41,7 +40,7 @@ use Rattle.frame_encoder.specs.declared.FrameEncoder.{FrameEncoder}
 use Rattle.frame_encoder.specs.declared.Step.{Step}
 use Rattle.frame_encoder.specs.Writer.{finish}
 use Rattle.frame_encoder.specs.Paper.{paperWriter, paperStep}
-use Rattle.frame_encoder.proofs.Thin.{Data, struct-data, enum-data, typed, takes-out, puts-back, answers, one, gone, all-said, all-fit, all-go}
+use Rattle.basis.proofs.Thin.{Data, struct-data, enum-data, typed, takes-out, puts-back, answers, one, gone, all-said, all-fit, all-go}
 use Rattle.frame_encoder.proofs.FrameEncoder as T
 use Rattle.frame_encoder.proofs.FrameEncoder.Laws as T′
 use Rattle.frame_encoder.proofs.Step as S
