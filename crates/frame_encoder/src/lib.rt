@@ -100,8 +100,8 @@ impl FrameEncoder {
     pub fn reset(self) -> FrameEncoder
         ensures { λ r. ⌜ paperWriter r ≡ fresh (paperForm (self .form)) ⌝ }
     {
-        let form = self.form;
-        FrameEncoder::new(form)
+        let same_form = self.form;
+        FrameEncoder::new(same_form)
     }
 
     // 1, 16, 14.
