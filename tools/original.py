@@ -14,15 +14,14 @@ class Original:
     def __init__(self, oracle):
         self.process = subprocess.Popen([oracle, "lines"], stdin=subprocess.PIPE, stdout=subprocess.PIPE, text=True)
 
-    # A command's answer ends with a line of a single dot.
+    # A command is answered by a line, and that by a line of a single dot.
     def ask(self, command):
         self.process.stdin.write(command + "\n")
         self.process.stdin.flush()
-        lines = iter(self.process.stdout.readline, ".\n")
-        answer = " ".join(line.rstrip("\n") for line in lines)
-        if answer.startswith(("PANIC", "unknown")):
-            raise SystemExit(f"{command[:200]}: {answer}")
-        return answer
+        answer, end = self.process.stdout.readline(), self.process.stdout.readline()
+        if answer.startswith(("PANIC", "unknown")) or end != ".\n":
+            raise SystemExit(f"{command[:200]}: {answer}{end}")
+        return answer.rstrip("\n")
 
     # The writer after a call. The Rust says of it only whether it has envelopes.
     def writer(self, so_far):
