@@ -30,6 +30,46 @@ pub fn byte(x: u8) {
     io::print_hex(STDOUT_FILENO, x as u64, 2);
 }
 
+// The first of these bytes ends its run if another follows, or none.
+fn ends_run(bytes: &[u8]) -> bool {
+    if bytes.len() < 2 {
+        return true;
+    }
+    bytes[0] != bytes[1]
+}
+
+fn run(is_first: bool, x: u8, n: usize) {
+    if !is_first {
+        text(b",");
+    }
+    byte(x);
+    if 1 < n {
+        number(b"*", n);
+    }
+}
+
+fn runs(bytes: &[u8]) {
+    let mut start: usize = 0;
+    let mut i: usize = 0;
+    while i < bytes.len() {
+        if ends_run(&bytes[i..]) {
+            run(start == 0, bytes[i], i - start + 1);
+            start = i + 1;
+        }
+        i += 1;
+    }
+}
+
+// Bytes as a case spells them.
+pub fn spelt(before: &[u8], bytes: &[u8]) {
+    text(before);
+    if bytes.len() == 0 {
+        text(b"-");
+    } else {
+        runs(bytes);
+    }
+}
+
 pub fn refused(before: &[u8], why: Refusal) {
     text(before);
     io::print_decimal(STDOUT_FILENO, why.number() as u64);
