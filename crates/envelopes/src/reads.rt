@@ -12,7 +12,7 @@ use types::Walk;
 // The first 20 warnings are shown, and that there are more.
 fn warning(met: usize, text: &[u8]) {
     if met < 20 {
-        outcome::spelt(b" ", text);
+        say::spelt(b" ", text);
     }
     if met == 20 {
         say::text(b" ...");
@@ -48,11 +48,11 @@ fn whole(bytes: &[u8], envelope: Envelope) {
     let body = envelope.body;
     say::number(b"whole ", envelope.size);
     outcome::header(header);
-    outcome::spelt(b" id ", read::tracing_id(bytes, envelope));
+    say::spelt(b" id ", read::tracing_id(bytes, envelope));
     warnings(bytes, header.flags, envelope.warnings);
     say::number(b" body ", body.start);
     say::number(b"+", body.len);
-    outcome::spelt(b" ", read::body(bytes, envelope));
+    say::spelt(b" ", read::body(bytes, envelope));
 }
 
 fn envelope(bytes: &[u8], view: &[u8]) {

@@ -1,5 +1,4 @@
 // The case that writes.
-use crate::outcome;
 use cases::say;
 use cases::words;
 use cases::words::Hex;
@@ -103,7 +102,7 @@ fn show(out: &mut [u8], header: Header, id: &[u8], text: &[u8], lens: &[usize], 
         Written::Next(n) => say::number(b"wrote ", n),
         Written::Refused(why) => say::refused(b"refused ", why),
     }
-    outcome::spelt(b" holds ", out);
+    say::spelt(b" holds ", out);
 }
 
 // Whether the line was a case, and not for more room than there is.
