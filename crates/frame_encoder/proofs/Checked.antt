@@ -91,6 +91,13 @@ piece-most n =
       | no h ↦ let k : maxPayload < n = lt-of-not-le h in let e = piece-front n k in (omega (arith, e), omega (arith, e))
     ]
 
+pub piece-some : (n : ℕ) → 0 < n → 0 < pieceOf n
+piece-some n some =
+    elim (decLe n maxPayload) [
+      | yes h ↦ omega (arith, piece-all n h)
+      | no h ↦ omega (arith, piece-front n (lt-of-not-le h))
+    ]
+
 -- ---- what a call leaves
 
 pub unless-fine : {c : Check} (w : Writer) (out : List ℕ) (d : Done) → c ≡ fine → unless c w out d ≡ d

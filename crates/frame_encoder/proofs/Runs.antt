@@ -1,23 +1,24 @@
 -- What runs of calls leave: packed envelopes are one segment, and a split envelope is segments that join to it. Assumes nothing.
-use Prim.Native.Nat.{ℕ, _+_, _≤_}
+use Prim.Native.Nat.{ℕ, zero, suc, _+_, _-_, _≤_, _<_}
 use mathlib.Core.Path.{_≡_, refl, sym, ap, _∙_, subst}
 use mathlib.Core.Bool.{Bool, true, false}
 use mathlib.Core.List.{List, [], _∷_, _++_}
-use native.Mathlib.Nat.{add-zero, zero-add}
+use native.Mathlib.Nat.{add-zero, zero-add, not-suc-le-zero, le-refl}
 use native.Mathlib.Omega.{arith}
-use lib.ListN.{length, take, drop, length-append, take-append-drop}
+use borrow.Author.Tests.{le-leb, eq-eqb}
+use lib.ListN.{length, take, drop, length-append, take-append-drop, length-drop}
 use lib.Seq.{length-take-le}
 use Rattle.basis.specs.Front.{whole}
 use Rattle.types.specs.Number.{part}
 use Rattle.types.specs.Write.{put, Check, fine, against, joined}
-use Rattle.types.proofs.Put.{put-none, put-put, length-put}
+use Rattle.types.proofs.Put.{put-none, put-put, length-put, demanded}
 use Rattle.types.proofs.Holds.{Holds, holds-put}
 use Rattle.segment.specs.Header.{Form, headerLength}
 use Rattle.segment.specs.Segment.{maxPayload, segmentLength, segmentBytes, segment, segmentAt}
 use Rattle.segment.proofs.WrittenRead.{segment-back}
 use Rattle.frame_encoder.specs.Writer.{Writer, writer, fresh, Reply, wrote, refused, Done, done, unless, addCheck, add, finishCheck, finish, pieceOf, pieceCheck, piece}
 use Rattle.frame_encoder.specs.Runs.{Added, none-added, one-added, Split, all-sent, one-sent}
-use Rattle.frame_encoder.proofs.Checked.{AddFine, add-fine, FinishFine, finish-fine, PieceFine, piece-fine, piece-most}
+use Rattle.frame_encoder.proofs.Checked.{AddFine, add-fine, FinishFine, finish-fine, PieceFine, piece-fine, piece-most, piece-some, unless-fine}
 use Rattle.frame_encoder.proofs.Laid.{segment-length, piece-laid}
 
 -- ---- a call that was accepted
@@ -166,3 +167,32 @@ split-joins f [] [] all-sent = nothing
 split-joins f envelope (end ∷ others) (one-sent out {taken = taken} some e more) =
     let s = piece-segment f out envelope e in
     subst (λ (x : List ℕ). Joins f (end ∷ others) x) (take-append-drop taken envelope) (behind (s .0 .reads) (split-joins f (drop taken envelope) others more))
+
+-- ---- it always comes to an end
+
+-- into an output that has room for the longest segment, the pieces go on until nothing is left
+module _ (f : Form) (out : List ℕ) (room : segmentLength f maxPayload ≤ length out) where
+  piece-made : (envelope : List ℕ)
+      → piece (fresh f) out envelope
+      ≡ done (fresh f) (wrote (segmentLength f (pieceOf (length envelope))) (pieceOf (length envelope))) (put out 0 (segmentBytes f false (take (pieceOf (length envelope)) envelope)))
+  unfolding piece pieceCheck
+  piece-made envelope =
+      let m = piece-most (length envelope) in
+      unless-fine (fresh f) out _
+      (demanded 1 _ (le-leb 0 maxPayload (omega arith))
+      ∙ demanded 17 _ (eq-eqb 0 0 refl)
+      ∙ demanded 14 fine (le-leb (segmentLength f (pieceOf (length envelope))) (length out) (omega (arith, m .1))))
+
+  split-by : (n : ℕ) (envelope : List ℕ) → length envelope ≤ n → (outputs : List (List ℕ)) × Split f envelope outputs
+  split-by zero [] h = ([], all-sent)
+  split-by zero (x ∷ xs) h = absurd (not-suc-le-zero h)
+  split-by (suc n) [] h = ([], all-sent)
+  split-by (suc n) (x ∷ xs) h =
+      let t : ℕ = pieceOf (length (x ∷ xs)) in
+      let some : 0 < t = piece-some (length (x ∷ xs)) (omega arith) in
+      let l : length (drop t (x ∷ xs)) ≡ length (x ∷ xs) - t = length-drop t (x ∷ xs) in
+      let r = split-by n (drop t (x ∷ xs)) (omega arith) in
+      (put out 0 (segmentBytes f false (take t (x ∷ xs))) ∷ r .0, one-sent out {envelope = x ∷ xs} (omega arith) (piece-made (x ∷ xs)) (r .1))
+
+  pub split-ends : (envelope : List ℕ) → (outputs : List (List ℕ)) × Split f envelope outputs
+  split-ends envelope = split-by (length envelope) envelope (le-refl (length envelope))
