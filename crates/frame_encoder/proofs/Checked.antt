@@ -10,13 +10,9 @@ use borrow.Author.Tests.{le-leb, lt-leb, lt-ltb, le-ltb, leb-true, ltb-true, eqb
 use lib.Dec.{leb, eqb}
 use Rattle.types.specs.Write.{Check, fine, against}
 use Rattle.types.proofs.Cut.{demand-fine}
-use Rattle.segment.specs.Header.{Form, short, long, headerLength, lengths}
+use Rattle.segment.specs.Header.{lengths}
 use Rattle.segment.specs.Segment.{maxPayload, segmentLength}
 use Rattle.frame_encoder.specs.Writer.{Writer, Done, done, refused, unless, fits, roomFor, addCheck, finishCheck, pieceOf, pieceCheck}
-
-pub head-most : (f : Form) → headerLength f ≤ 8
-head-most short = omega arith
-head-most long = omega arith
 
 -- ---- whether an envelope fits
 

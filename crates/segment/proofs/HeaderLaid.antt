@@ -10,8 +10,16 @@ use Rattle.types.specs.Write.{put}
 use Rattle.types.proofs.Put.{put-then}
 use Rattle.types.proofs.Holds.{holds-put}
 use Rattle.segment.specs.LittleEndian.{leDigits}
-use Rattle.segment.specs.Header.{Form, Header, numberLength, checkLength, headerLength, numberOf, headerNumber, headerBytes}
+use Rattle.segment.specs.Header.{Form, short, long, Header, numberLength, checkLength, headerLength, numberOf, headerNumber, headerBytes}
 use Rattle.segment.proofs.LittleEndian.{length-le}
+
+pub head-least : (f : Form) → 6 ≤ headerLength f
+head-least short = omega arith
+head-least long = omega arith
+
+pub head-most : (f : Form) → headerLength f ≤ 8
+head-most short = omega arith
+head-most long = omega arith
 
 pub number-length : (f : Form) (h : Header) → length (headerNumber f h) ≡ numberLength f
 unfolding headerNumber

@@ -4,7 +4,7 @@ use mathlib.Core.Path.{ap}
 use native.Mathlib.Omega.{arith}
 use lib.Dec.{leb}
 use Rattle.segment.specs.Paper.{paperForm}
-use Rattle.frame_encoder.proofs.Checked.{head-most}
+use Rattle.segment.proofs.HeaderLaid.{head-most}
 use borrow.Author.Needs.{needs}
 use Rattle.frame_encoder.proofs.has_room.Statement.{statement}
 use Rattle.frame_encoder.proofs.has_room.Tie as tie

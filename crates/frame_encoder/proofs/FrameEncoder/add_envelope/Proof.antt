@@ -6,9 +6,10 @@ use lib.ListN.{length}
 use Rattle.types.specs.Paper.{paperWritable}
 use Rattle.types.specs.Write.{put}
 use Rattle.segment.specs.Paper.{paperForm}
+use Rattle.segment.proofs.HeaderLaid.{head-most}
 use Rattle.frame_encoder.specs.Writer.{writer, wrote, done, add}
 use Rattle.frame_encoder.specs.Paper.{paperWriter}
-use Rattle.frame_encoder.proofs.Checked.{head-most, add-fine, unless-fine, unless-against}
+use Rattle.frame_encoder.proofs.Checked.{add-fine, unless-fine, unless-against}
 use borrow.Author.Needs.{needs}
 use Rattle.frame_encoder.proofs.FrameEncoder.add_envelope.Statement.{statement}
 use Rattle.frame_encoder.proofs.FrameEncoder.add_envelope.Tie as tie

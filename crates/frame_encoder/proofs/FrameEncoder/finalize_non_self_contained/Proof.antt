@@ -9,9 +9,10 @@ use Rattle.types.specs.Paper.{paperWritable}
 use Rattle.types.specs.Write.{put}
 use Rattle.segment.specs.Segment.{segmentLength, segmentBytes}
 use Rattle.segment.specs.Paper.{paperForm}
+use Rattle.segment.proofs.HeaderLaid.{head-most}
 use Rattle.frame_encoder.specs.Writer.{Writer, fresh, wrote, done, piece}
 use Rattle.frame_encoder.specs.Paper.{paperWriter}
-use Rattle.frame_encoder.proofs.Checked.{head-most, piece-fine, unless-fine, unless-against}
+use Rattle.frame_encoder.proofs.Checked.{piece-fine, unless-fine, unless-against}
 use Rattle.frame_encoder.proofs.Laid.{piece-laid}
 use borrow.Author.Needs.{needs}
 use Rattle.frame_encoder.proofs.FrameEncoder.finalize_non_self_contained.Statement.{statement}

@@ -5,9 +5,10 @@ use native.Mathlib.Omega.{arith}
 use lib.ListN.{length}
 use Rattle.types.specs.Paper.{paperWritable}
 use Rattle.segment.specs.Paper.{paperForm}
+use Rattle.segment.proofs.HeaderLaid.{head-most}
 use Rattle.frame_encoder.specs.Writer.{Writer, fresh, wrote, done, finish}
 use Rattle.frame_encoder.specs.Paper.{paperWriter}
-use Rattle.frame_encoder.proofs.Checked.{head-most, finish-fine, unless-fine, unless-against}
+use Rattle.frame_encoder.proofs.Checked.{finish-fine, unless-fine, unless-against}
 use borrow.Author.Needs.{needs}
 use Rattle.frame_encoder.proofs.FrameEncoder.finalize_self_contained.Statement.{statement}
 use Rattle.frame_encoder.proofs.FrameEncoder.finalize_self_contained.Tie as tie

@@ -1,0 +1,5 @@
+-- Laws that belong to no one function.
+pub mod Admits
+pub mod Moved
+pub mod Parts
+pub mod Tags

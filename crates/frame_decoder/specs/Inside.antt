@@ -1,0 +1,47 @@
+-- What the types inside the crate mean, and what is known of a state that was admitted. Assumes nothing.
+use Prim.Native.Nat.{ℕ, _+_, _-_, _≤_, _<_}
+use mathlib.Core.Path.{_≡_}
+use mathlib.Core.List.{List}
+use lib.ListN.{length, drop}
+use Rattle.segment.specs.Header.{Form, headerLength}
+use Rattle.segment.specs.Segment.{maxPayload, segmentLength}
+use Rattle.frame_decoder.specs.Reader.{Phase, inHeader, inRest, inSegment, inReassembly, stopped, Reader, minSegment, maxSegment, maxReassembly}
+use Rattle.frame_decoder.specs.Settle as settling
+use Rattle.frame_decoder.specs.Call.{Outcome, work}
+use Rattle.frame_decoder.specs.Paper.{paperReader, paperAnswer, paperStep}
+use Rattle.frame_decoder.specs.declared.Reader as code-reader
+use Rattle.frame_decoder.specs.declared.Answer as code-answer
+use Rattle.frame_decoder.specs.declared.Step.{Step}
+use Rattle.frame_decoder.specs.declared.settle.Due.{Due}
+
+abbrev pub paperDue : Due → settling.Due
+paperDue (Due.Answered answer r) = settling.due (paperAnswer answer) (paperReader r)
+paperDue (Due.Waits r) = settling.waits (paperReader r)
+
+abbrev pub stepOf : code-reader.Reader → code-answer.Answer → ℕ → Step
+stepOf r answer taken = record { reader = r; heard = record { answer = answer; taken = taken } }
+
+-- ---- counts that lie in what they count
+
+abbrev pub Counts : Form → ℕ → ℕ → Phase → Type 0
+Counts form room pending (inHeader n) = n ≤ headerLength form
+Counts form room pending (inRest n len self) = (len ≤ maxPayload) × (segmentLength form len ≤ room) × (n ≤ segmentLength form len)
+Counts form room pending (inSegment len at) = (len ≤ maxPayload) × (segmentLength form len ≤ room) × (at ≤ len)
+Counts form room pending (inReassembly at) = at ≤ pending
+Counts form room pending (stopped number) = Unit
+
+-- a reader over buffers of a and b bytes
+pub record Admitted (r : Reader) (a b : ℕ) : Type 0 where
+  pub least : minSegment ≤ a
+  pub most : a ≤ maxSegment
+  pub held : r .pending ≤ b
+  pub largest : b ≤ maxReassembly
+  pub counts : Counts (r .form) a (r .pending) (r .phase)
+
+-- how many bytes are still to come of a header or a segment
+abbrev pub wanted : Form → Phase → ℕ
+wanted form (inHeader n) = headerLength form - n
+wanted form (inRest n len self) = segmentLength form len - n
+wanted form (inSegment len at) = 0
+wanted form (inReassembly at) = 0
+wanted form (stopped number) = 0

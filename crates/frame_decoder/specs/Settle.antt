@@ -1,0 +1,106 @@
+-- What is due without another byte, up to the first answer: docs/RULES.md, 6.5 to 6.9. Assumes nothing.
+use Prim.Native.Nat.{ℕ, _+_, _-_}
+use mathlib.Core.Bool.{Bool, true, false, cond}
+use mathlib.Core.List.{List}
+use lib.Dec.{leb, eqb}
+use lib.ListN.{length, take}
+use Rattle.basis.specs.Front.{Front, incomplete, refuses, whole}
+use Rattle.types.specs.Number.{part}
+use Rattle.types.specs.Read.{place}
+use Rattle.types.specs.Write.{put}
+use Rattle.segment.specs.Header.{Header, header, headerLength}
+use Rattle.segment.specs.Segment.{Segment, segmentLength, headerAt, payloadAt}
+use Rattle.frame.specs.Envelope.{Envelope, envelope}
+use Rattle.frame_decoder.specs.Reader.{Phase, inHeader, inRest, inSegment, inReassembly, stopped, Reader, keeping, inPhase, segmentBuffer, reassemblyBuffer, Answer, envelopeAt, leftover, refused}
+
+-- an answer and the reader behind it; or a reader that waits for bytes
+pub data Due : Type 0 where
+  due : Answer → Reader → Due
+  waits : Reader → Due
+
+-- the same, and what the reassembly buffer then holds; the segment buffer is never changed
+pub record Settled : Type 0 where
+  pub says : Due
+  pub reassembly : List ℕ
+
+abbrev pub settled : Due → List ℕ → Settled
+settled says reassembly = record { says = says; reassembly = reassembly }
+
+-- 6.13: a refusal stops the reader
+abbrev pub refusing : ℕ → Reader → Due
+refusing number r = due (refused number) (inPhase r (stopped number))
+
+-- ---- 6.5: a header of which n bytes are there, and as what it is read; room is the segment buffer's
+
+unfoldable pub headerDue : Reader → ℕ → ℕ → Front Header → Due
+headerDue r n room incomplete = waits r
+headerDue r n room (refuses number) = refusing number r
+headerDue r n room (whole h) =
+    cond (leb (segmentLength (r .form) (h .payload)) room)
+    (waits (inPhase r (inRest n (h .payload) (h .self))))
+    (refusing 4 r)
+
+-- ---- 6.7: envelopes of a self-contained payload, where it stands in the segment buffer
+
+-- 6.8: n unread bytes are dropped
+unfoldable pub leftoverDue : Reader → ℕ → Due
+leftoverDue r n = cond (eqb n 0) (waits (inPhase r (inHeader 0))) (due (leftover n) (inPhase r (inHeader 0)))
+
+unfoldable pub fromSegment : Reader → ℕ → ℕ → Front Envelope → Due
+fromSegment r len at incomplete = leftoverDue r (len - at)
+fromSegment r len at (refuses number) = refusing number r
+fromSegment r len at (whole e) =
+    due (envelopeAt segmentBuffer (place (headerLength (r .form) + at) (e .size)) e) (inPhase r (inSegment len (at + e .size)))
+
+unfoldable pub readSegment : Reader → List ℕ → ℕ → ℕ → Due
+readSegment r segment len at = fromSegment r len at (envelope (part segment (headerLength (r .form) + at) (len - at)))
+
+-- ---- 6.7: envelopes of the pending bytes
+
+-- 6.9: n bytes are moved to the front, and those behind keep what they held
+abbrev pub movedDown : List ℕ → ℕ → ℕ → List ℕ
+movedDown reassembly at n = put reassembly 0 (part reassembly at n)
+
+unfoldable pub fromPending : Reader → List ℕ → ℕ → Front Envelope → Settled
+fromPending r reassembly at incomplete =
+    settled (waits (keeping r (r .pending - at) (inHeader 0))) (movedDown reassembly at (r .pending - at))
+fromPending r reassembly at (refuses number) = settled (refusing number r) reassembly
+fromPending r reassembly at (whole e) =
+    settled (due (envelopeAt reassemblyBuffer (place at (e .size)) e) (inPhase r (inReassembly (at + e .size)))) reassembly
+
+unfoldable pub readPending : Reader → List ℕ → ℕ → Settled
+readPending r reassembly at = fromPending r reassembly at (envelope (part reassembly at (r .pending - at)))
+
+-- ---- 6.6: a segment whose header said len, and as what it is read
+
+-- self-contained
+unfoldable pub readAlone : Reader → List ℕ → ℕ → Due
+readAlone r segment len = cond (eqb (r .pending) 0) (readSegment r segment len 0) (refusing 6 r)
+
+-- not: its payload joins the pending bytes
+unfoldable pub readJoined : Reader → List ℕ → List ℕ → Settled
+readJoined r reassembly payload =
+    cond (leb (r .pending + length payload) (length reassembly))
+    (readPending (keeping r (r .pending + length payload) (inReassembly 0)) (put reassembly (r .pending) payload) 0)
+    (settled (refusing 7 r) reassembly)
+
+abbrev pub received : Reader → List ℕ → List ℕ → ℕ → Bool → List ℕ → Settled
+received r segment reassembly len true payload = settled (readAlone r segment len) reassembly
+received r segment reassembly len false payload = readJoined r reassembly payload
+
+unfoldable pub segmentDue : Reader → List ℕ → List ℕ → ℕ → Front Segment → Settled
+segmentDue r segment reassembly len incomplete = settled (waits r) reassembly
+segmentDue r segment reassembly len (refuses number) = settled (refusing number r) reassembly
+segmentDue r segment reassembly len (whole s) = received r segment reassembly len (s .self) (s .payload)
+
+-- ---- by phase
+
+unfoldable pub settleAt : Reader → List ℕ → List ℕ → Phase → Settled
+settleAt r segment reassembly (inHeader n) = settled (headerDue r n (length segment) (headerAt (r .form) (take n segment))) reassembly
+settleAt r segment reassembly (inRest n len self) = segmentDue r segment reassembly len (payloadAt (r .form) (take n segment) (header len 0 self))
+settleAt r segment reassembly (inSegment len at) = settled (readSegment r segment len at) reassembly
+settleAt r segment reassembly (inReassembly at) = readPending r reassembly at
+settleAt r segment reassembly (stopped number) = settled (due (refused number) r) reassembly
+
+unfoldable pub settle : Reader → List ℕ → List ℕ → Settled
+settle r segment reassembly = settleAt r segment reassembly (r .phase)

@@ -1,0 +1,120 @@
+// The stream reader: a value that goes into each call and comes back changed, over two lent buffers. One answer a call.
+// `specs/Paper.antt` says what each case of a state or an answer means.
+ghost use mathlib.Core.Path.{_≡_};
+ghost use Rattle.types.specs.Paper.{placeOf};
+ghost use Rattle.segment.specs.Paper.{paperForm};
+ghost use Rattle.frame_decoder.specs.Reader.{fresh, bytesAt, held};
+ghost use Rattle.frame_decoder.specs.Call.{outcome, call};
+ghost use Rattle.frame_decoder.specs.Paper.{paperReader, paperBuffer, paperAnswer, paperStep};
+use frame::Envelope;
+use refusal::Refusal;
+use segment::Form;
+use types::Place;
+
+mod admit;
+mod settle;
+
+// How long the lent buffers may be.
+pub const MIN_SEGMENT_LEN: usize = 12;
+
+pub const MAX_SEGMENT_LEN: usize = 131_083;
+
+pub const MIN_REASSEMBLY_LEN: usize = 9;
+
+pub const MAX_REASSEMBLY_LEN: usize = 1_048_576;
+
+// What a reader is about.
+pub enum Phase {
+    // So many bytes of a header are there.
+    Header {
+        filled: usize,
+    },
+    // Its header has passed, and so many bytes of the segment are there.
+    Rest {
+        filled: usize,
+        len: usize,
+        self_contained: bool,
+    },
+    // Envelopes of a self-contained payload are handed on; the bytes before at are read.
+    InSegment {
+        len: usize,
+        at: usize,
+    },
+    // Envelopes of the pending bytes are handed on; the bytes before at are read.
+    InReassembly {
+        at: usize,
+    },
+    Stopped(Refusal),
+}
+
+// The form, the lengths of the two buffers that it was made for, how many bytes are pending, and the phase. Plain data: a forged one has its answer too.
+pub struct Reader {
+    pub form: Form,
+    pub segment_len: usize,
+    pub reassembly_len: usize,
+    pub pending: usize,
+    pub phase: Phase,
+}
+
+pub enum Buffer {
+    Segment,
+    Reassembly,
+}
+
+pub enum Answer {
+    // In which buffer, where and how long, and its reading. The place stands until the next call.
+    Envelope(Buffer, Place, Envelope),
+    // So many bytes of a self-contained payload were dropped.
+    Leftover(usize),
+    More,
+    Refused(Refusal),
+}
+
+// An answer, and how many bytes of the piece the call took.
+pub struct Heard {
+    pub answer: Answer,
+    pub taken: usize,
+}
+
+pub struct Step {
+    pub reader: Reader,
+    pub heard: Heard,
+}
+
+// The bytes of an envelope's place: none where it runs past the end of its buffer.
+pub fn part<'a>(buffer: Buffer, segment: &'a [u8], reassembly: &'a [u8], place: Place) -> &'a [u8]
+    ensures { λ r. ⌜ now r ≡ bytesAt (paperBuffer buffer) (now (segment .entry)) (now (reassembly .entry)) (placeOf place) ⌝ }
+{
+    match buffer {
+        Buffer::Segment => types::part(segment, place),
+        Buffer::Reassembly => types::part(reassembly, place),
+    }
+}
+
+impl Reader {
+    // Never refuses: each call tests the lengths.
+    pub fn new(form: Form, segment_len: usize, reassembly_len: usize) -> Reader
+        ensures { λ r. ⌜ paperReader r ≡ fresh (paperForm form) «segment_len» «reassembly_len» ⌝ }
+    {
+        let phase = Phase::Header { filled: 0 };
+        Reader {
+            form,
+            segment_len,
+            reassembly_len,
+            pending: 0,
+            phase,
+        }
+    }
+
+    // How many bytes are held: those of an unfinished segment, and those pending.
+    pub fn held(self) -> usize
+        ensures { λ r. ⌜ r ≡ held (paperReader self) ⌝ }
+    {
+        let segment_len = self.segment_len;
+        let reassembly_len = self.reassembly_len;
+        if admit::is_admissible(self, segment_len, reassembly_len) {
+            return admit::held_in(self);
+        }
+        0
+    }
+}

@@ -1,0 +1,258 @@
+// What is due without another byte, up to the first answer.
+ghost use mathlib.Core.Path.{_≡_};
+ghost use Prim.Native.Nat.{_+_, _≤_};
+ghost use lib.Dec.{eqb};
+ghost use lib.ListN.{length, take};
+ghost use Rattle.basis.specs.Front.{whole};
+ghost use Rattle.crc.specs.Check32.{crc32};
+ghost use Rattle.refusal.specs.Refusal.{numberOf};
+ghost use Rattle.types.specs.Number.{part};
+ghost use Rattle.segment.specs.LittleEndian.{le};
+ghost use Rattle.segment.specs.Header.{headerLength, header as fieldsAre};
+ghost use Rattle.segment.specs.Segment.{trailerLength, segmentLength, headerAt, payloadAt};
+ghost use Rattle.segment.specs.Paper.{paperForm, paperHeader};
+ghost use Rattle.frame_decoder.specs.Reader.{keeping, inPhase};
+ghost use Rattle.frame_decoder.specs.Settle.{settled, refusing, headerDue, leftoverDue, readSegment, movedDown, readPending, readAlone, readJoined, segmentDue, settle};
+ghost use Rattle.frame_decoder.specs.Paper.{paperPhase, paperReader};
+ghost use Rattle.frame_decoder.specs.Inside.{paperDue, Admitted};
+use crate::Answer;
+use crate::Buffer;
+use crate::Phase;
+use crate::Reader;
+use crc::crc32;
+use frame::Reading;
+use frame::read::read_envelope;
+use refusal::Refusal;
+use segment::Header;
+use segment::ReadHeader;
+use segment::TRAILER_LEN;
+use segment::header_len;
+use segment::inner::number;
+use segment::read_header;
+use types::Place;
+use types::inner::put_bytes;
+
+// An answer and the reader behind it, or a reader that waits for bytes.
+pub(crate) enum Due {
+    Answered(Answer, Reader),
+    Waits(Reader),
+}
+
+fn kept(m: Reader, pending: usize, phase: Phase) -> Reader
+    ensures { λ r. ⌜ paperReader r ≡ keeping (paperReader m) pending (paperPhase phase) ⌝ }
+{
+    let form = m.form;
+    Reader {
+        form,
+        segment_len: m.segment_len,
+        reassembly_len: m.reassembly_len,
+        pending,
+        phase,
+    }
+}
+
+pub(crate) fn in_phase(m: Reader, phase: Phase) -> Reader
+    ensures { λ r. ⌜ paperReader r ≡ inPhase (paperReader m) (paperPhase phase) ⌝ }
+{
+    let pending = m.pending;
+    kept(m, pending, phase)
+}
+
+// Any refusal stops the reader.
+fn refuse(m: Reader, e: Refusal) -> Due
+    ensures { λ r. ⌜ paperDue r ≡ refusing (numberOf e) (paperReader m) ⌝ }
+{
+    let reader = in_phase(m, Phase::Stopped(e));
+    Due::Answered(Answer::Refused(e), reader)
+}
+
+// A header that is there and passed its checks: 4.
+fn passed(m: Reader, filled: usize, room: usize, header: Header) -> Due
+    ensures { λ r. ⌜ paperDue r ≡ headerDue (paperReader m) filled room (whole (paperHeader header)) ⌝ }
+{
+    let form = m.form;
+    let len = header.payload as usize;
+    let size = header_len(form) + len + TRAILER_LEN;
+    if size <= room {
+        let self_contained = header.self_contained;
+        let phase = Phase::Rest {
+            filled,
+            len,
+            self_contained,
+        };
+        let reader = in_phase(m, phase);
+        return Due::Waits(reader);
+    }
+    refuse(m, Refusal::SegmentTooLong)
+}
+
+// So many bytes of a header are there: 2, 3, 4.
+fn header_due(m: Reader, segment: &[u8], filled: usize) -> Due
+    requires { ⌜ filled ≤ length (now segment) ⌝ }
+    ensures { λ r. ⌜ paperDue r ≡ headerDue (paperReader m) filled (length (now (segment .entry))) (headerAt (paperForm (m .form)) (take filled (now (segment .entry)))) ⌝ }
+{
+    let form = m.form;
+    match read_header(form, &segment[..filled]) {
+        ReadHeader::Incomplete => Due::Waits(m),
+        ReadHeader::Whole(header) => passed(m, filled, segment.len(), header),
+        ReadHeader::Refused(e) => refuse(m, e),
+    }
+}
+
+// A self-contained payload is read: what is left of it is dropped.
+fn left_over(m: Reader, n: usize) -> Due
+    ensures { λ r. ⌜ paperDue r ≡ leftoverDue (paperReader m) n ⌝ }
+{
+    let reader = in_phase(m, Phase::Header { filled: 0 });
+    if n == 0 {
+        return Due::Waits(reader);
+    }
+    Due::Answered(Answer::Leftover(n), reader)
+}
+
+// The next envelope of a self-contained payload, where it stands in the middle of the segment buffer.
+fn from_segment(m: Reader, segment: &[u8], len: usize, at: usize) -> Due
+    requires { ⌜ (at ≤ len) × (headerLength (paperForm (m .form)) + len ≤ length (now segment)) ⌝ }
+    ensures { λ r. ⌜ paperDue r ≡ readSegment (paperReader m) (now (segment .entry)) len at ⌝ }
+{
+    let form = m.form;
+    let head = header_len(form);
+    let start = head + at;
+    let end = head + len;
+    let reading = read_envelope(&segment[start..end]);
+    if let Reading::Refused(e) = reading {
+        return refuse(m, e);
+    }
+    let Reading::Whole(envelope) = reading else {
+        return left_over(m, len - at);
+    };
+    let size = envelope.size;
+    let next = at + size;
+    let reader = in_phase(m, Phase::InSegment { len, at: next });
+    let place = Place { start, len: size };
+    Due::Answered(Answer::Envelope(Buffer::Segment, place, envelope), reader)
+}
+
+// n bytes from at on to the front; the bytes behind them keep what they held.
+fn move_down(buffer: &mut [u8], at: usize, n: usize)
+    requires { ⌜ at + n ≤ length (now buffer) ⌝ }
+    ensures { λ _. ⌜ now (buffer .exit) ≡ movedDown (now (buffer .entry)) at n ⌝ }
+{
+    let mut i: usize = 0;
+    while i < n {
+        buffer[i] = buffer[at + i];
+        i += 1;
+    }
+}
+
+// The next envelope of the pending bytes; where there is none, those unread are moved to the front.
+fn from_pending(m: Reader, reassembly: &mut [u8], at: usize) -> Due
+    requires { ⌜ (at ≤ m .pending) × (m .pending ≤ length (now reassembly)) ⌝ }
+    ensures { λ r. ⌜ settled (paperDue r) (now (reassembly .exit)) ≡ readPending (paperReader m) (now (reassembly .entry)) at ⌝ }
+{
+    let end = m.pending;
+    let reading = read_envelope(&reassembly[at..end]);
+    if let Reading::Refused(e) = reading {
+        return refuse(m, e);
+    }
+    let Reading::Whole(envelope) = reading else {
+        let unread = end - at;
+        move_down(reassembly, at, unread);
+        let waiting = kept(m, unread, Phase::Header { filled: 0 });
+        return Due::Waits(waiting);
+    };
+    let size = envelope.size;
+    let next = at + size;
+    let reader = in_phase(m, Phase::InReassembly { at: next });
+    let place = Place {
+        start: at,
+        len: size,
+    };
+    Due::Answered(
+        Answer::Envelope(Buffer::Reassembly, place, envelope),
+        reader,
+    )
+}
+
+// The check behind a payload is that of its bytes.
+fn payload_holds(segment: &[u8], start: usize, len: usize) -> bool
+    requires { ⌜ start + len + trailerLength ≤ length (now segment) ⌝ }
+    ensures { λ r. ⌜ r ≡ eqb (le (part (now (segment .entry)) (start + len) trailerLength)) (crc32 (part (now (segment .entry)) start len)) ⌝ }
+{
+    let end = start + len;
+    let computed = crc32(&segment[start..end]);
+    let read = number(segment, end, TRAILER_LEN);
+    read == computed as u64
+}
+
+// A self-contained segment: 6.
+fn alone(m: Reader, segment: &[u8], len: usize) -> Due
+    requires { ⌜ headerLength (paperForm (m .form)) + len ≤ length (now segment) ⌝ }
+    ensures { λ r. ⌜ paperDue r ≡ readAlone (paperReader m) (now (segment .entry)) len ⌝ }
+{
+    let pending = m.pending;
+    if pending == 0 {
+        return from_segment(m, segment, len, 0);
+    }
+    refuse(m, Refusal::UnexpectedSelfContained)
+}
+
+// A segment that is not: 7, or its payload is appended, into the free tail of the reassembly buffer.
+fn append(m: Reader, payload: &[u8], reassembly: &mut [u8]) -> Due
+    requires { ⌜ m .pending ≤ length (now reassembly) ⌝ }
+    ensures { λ r. ⌜ settled (paperDue r) (now (reassembly .exit)) ≡ readJoined (paperReader m) (now (reassembly .entry)) (now (payload .entry)) ⌝ }
+{
+    let pending = m.pending;
+    let len = payload.len();
+    if len <= reassembly.len() - pending {
+        put_bytes(&mut reassembly[pending..], 0, payload);
+        let joined = kept(m, pending + len, Phase::InReassembly { at: 0 });
+        return from_pending(joined, reassembly, 0);
+    }
+    refuse(m, Refusal::ReassemblyTooShort)
+}
+
+// So many bytes of a segment are there whose header has passed: 5, then 6 or 7.
+fn segment_due(
+    m: Reader,
+    segment: &[u8],
+    reassembly: &mut [u8],
+    filled: usize,
+    len: usize,
+    self_contained: bool,
+) -> Due
+    requires { ⌜ (segmentLength (paperForm (m .form)) len ≤ length (now segment)) × (filled ≤ segmentLength (paperForm (m .form)) len) × (m .pending ≤ length (now reassembly)) ⌝ }
+    ensures { λ r. ⌜ settled (paperDue r) (now (reassembly .exit)) ≡ segmentDue (paperReader m) (now (segment .entry)) (now (reassembly .entry)) len (payloadAt (paperForm (m .form)) (take filled (now (segment .entry))) (fieldsAre len 0 «self_contained»)) ⌝ }
+{
+    let form = m.form;
+    let start = header_len(form);
+    let end = start + len;
+    if filled < end + TRAILER_LEN {
+        return Due::Waits(m);
+    }
+    if payload_holds(segment, start, len) {
+        if self_contained {
+            return alone(m, segment, len);
+        }
+        return append(m, &segment[start..end], reassembly);
+    }
+    refuse(m, Refusal::PayloadCheckDiffers)
+}
+
+pub(crate) fn settle(m: Reader, segment: &[u8], reassembly: &mut [u8]) -> Due
+    requires { ⌜ Admitted (paperReader m) (length (now segment)) (length (now reassembly)) ⌝ }
+    ensures { λ r. ⌜ settled (paperDue r) (now (reassembly .exit)) ≡ settle (paperReader m) (now (segment .entry)) (now (reassembly .entry)) ⌝ }
+{
+    let phase = m.phase;
+    match phase {
+        Phase::Header { filled } => header_due(m, segment, filled),
+        Phase::Rest {
+            filled,
+            len,
+            self_contained,
+        } => segment_due(m, segment, reassembly, filled, len, self_contained),
+        Phase::InSegment { len, at } => from_segment(m, segment, len, at),
+        Phase::InReassembly { at } => from_pending(m, reassembly, at),
+        Phase::Stopped(e) => Due::Answered(Answer::Refused(e), m),
+    }
+}
