@@ -3,3 +3,5 @@ pub mod Admits
 pub mod Moved
 pub mod Parts
 pub mod Tags
+pub mod Sound
+pub mod Works

@@ -24,13 +24,16 @@ unread-part s {k} {h} len at e =
     let n : k + len - (k + at) ≡ len - at = omega arith in
     ap (λ (i : ℕ). take i (drop (k + at) s)) n ∙ ap (λ (i : ℕ). part s (i + at) (len - at)) e
 
+-- a part up to the end is the tail
+pub tail-part : (d : List ℕ) (at : ℕ) → take (length d - at) (drop at d) ≡ drop at d
+tail-part d at = take-all (length d - at) (drop at d) (le-of-eq (length-drop at d))
+
 -- the free tail of a buffer, lent and come back with bytes at its front
 pub tail-put : (d bs : List ℕ) (at : ℕ) {e : List ℕ} → e ≡ put (take (length d - at) (drop at d)) 0 bs → take at d ++ (e ++ drop (length d - at) (drop at d)) ≡ put d at bs
 unfolding put
 tail-put d bs at {e} p =
-    let all : take (length d - at) (drop at d) ≡ drop at d = take-all (length d - at) (drop at d) (le-of-eq (length-drop at d)) in
     ap (λ (l : List ℕ). take at d ++ (e ++ l)) (drop-of-length-le (drop at d) (le-of-eq (length-drop at d)))
-    ∙ ap (λ (l : List ℕ). take at d ++ l) (append-nil e ∙ p ∙ ap (λ (l : List ℕ). put l 0 bs) all)
+    ∙ ap (λ (l : List ℕ). take at d ++ l) (append-nil e ∙ p ∙ ap (λ (l : List ℕ). put l 0 bs) (tail-part d at))
     ∙ ap (λ (k : ℕ). take at d ++ (bs ++ drop k (drop at d))) (zero-add (length bs))
     ∙ ap (λ (l : List ℕ). take at d ++ (bs ++ l)) (drop-drop (length bs) at d)
     ∙ sym (append-assoc (take at d) bs (drop (at + length bs) d))

@@ -13,6 +13,7 @@ use types::Place;
 
 mod admit;
 mod settle;
+mod work;
 
 // How long the lent buffers may be.
 pub const MIN_SEGMENT_LEN: usize = 12;
@@ -116,5 +117,16 @@ impl Reader {
             return admit::held_in(self);
         }
         0
+    }
+
+    // Works on to the first answer that is due, and takes no byte beyond.
+    pub fn read(self, segment: &mut [u8], reassembly: &mut [u8], piece: &[u8]) -> Step
+        ensures { λ r. ⌜ paperStep r (now (segment .exit)) (now (reassembly .exit)) ≡ call (paperReader self) (now (segment .entry)) (now (reassembly .entry)) (now (piece .entry)) ⌝ }
+    {
+        if admit::is_admissible(self, segment.len(), reassembly.len()) {
+            return work::work(self, segment, reassembly, piece);
+        }
+        let answer = Answer::Refused(Refusal::Inadmissible);
+        work::step(self, answer, 0)
     }
 }

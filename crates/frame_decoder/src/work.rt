@@ -1,0 +1,136 @@
+// One call: settling and taking bytes in turn, a run of bytes at a time.
+ghost use mathlib.Core.Path.{_≡_};
+ghost use Prim.Native.Nat.{_-_, _≤_, min};
+ghost use lib.ListN.{length, take};
+ghost use Rattle.types.specs.Write.{put};
+ghost use Rattle.segment.specs.Paper.{paperForm};
+ghost use Rattle.frame_decoder.specs.Call.{work};
+ghost use Rattle.frame_decoder.specs.Paper.{paperPhase, paperReader, paperStep};
+ghost use Rattle.frame_decoder.specs.Inside.{Admitted, Roomy, stepOf, FilledIs, TurnIs};
+use crate::Answer;
+use crate::Heard;
+use crate::Phase;
+use crate::Reader;
+use crate::Step;
+use crate::settle::Due;
+use crate::settle::in_phase;
+use crate::settle::settle;
+use segment::TRAILER_LEN;
+use segment::header_len;
+use types::inner::put_bytes;
+
+pub(crate) fn step(reader: Reader, answer: Answer, taken: usize) -> Step
+    ensures { λ r. ⌜ r ≡ stepOf reader answer taken ⌝ }
+{
+    let heard = Heard { answer, taken };
+    Step { reader, heard }
+}
+
+fn least(a: usize, b: usize) -> usize
+    ensures { λ r. ⌜ (r ≡ min a b) × (r ≤ a) × (r ≤ b) ⌝ }
+{
+    if a <= b { a } else { b }
+}
+
+// As many of the bytes as there is room for before end, and their number.
+fn fill_up(segment: &mut [u8], filled: usize, end: usize, bytes: &[u8]) -> usize
+    requires { ⌜ (filled ≤ end) × (end ≤ length (now segment)) ⌝ }
+    ensures { λ r. ⌜ (r ≡ min (end - filled) (length (now (bytes .entry)))) × (now (segment .exit) ≡ put (now (segment .entry)) filled (take r (now (bytes .entry)))) ⌝ }
+{
+    let took = least(end - filled, bytes.len());
+    put_bytes(segment, filled, &bytes[..took]);
+    took
+}
+
+struct Filled {
+    reader: Reader,
+    took: usize,
+}
+
+// Takes what is still to come of the header or the segment, as far as the bytes go.
+fn fill(m: Reader, segment: &mut [u8], bytes: &[u8]) -> Filled
+    requires { ⌜ Roomy (paperForm (m .form)) (length (now segment)) (paperPhase (m .phase)) ⌝ }
+    ensures { λ r. ⌜ FilledIs r (paperReader m) (now (segment .entry)) (now (segment .exit)) (now (bytes .entry)) ⌝ }
+{
+    let form = m.form;
+    let phase = m.phase;
+    match phase {
+        Phase::Header { filled } => {
+            let end = header_len(form);
+            let took = fill_up(segment, filled, end, bytes);
+            let count = filled + took;
+            let reader = in_phase(m, Phase::Header { filled: count });
+            Filled { reader, took }
+        }
+        Phase::Rest {
+            filled,
+            len,
+            self_contained,
+        } => {
+            let end = header_len(form) + len + TRAILER_LEN;
+            let took = fill_up(segment, filled, end, bytes);
+            let count = filled + took;
+            let grown = Phase::Rest {
+                filled: count,
+                len,
+                self_contained,
+            };
+            let reader = in_phase(m, grown);
+            Filled { reader, took }
+        }
+        Phase::InSegment { len: _, at: _ } => Filled { reader: m, took: 0 },
+        Phase::InReassembly { at: _ } => Filled { reader: m, took: 0 },
+        Phase::Stopped(_) => Filled { reader: m, took: 0 },
+    }
+}
+
+// What one turn leaves: the call's step, or a reader to go on with and how many bytes were taken so far.
+enum Turn {
+    Done(Step),
+    On(Reader, usize),
+}
+
+// Settles, and where nothing is due takes what it can of the rest of the piece.
+fn take_turn(
+    m: Reader,
+    taken: usize,
+    segment: &mut [u8],
+    reassembly: &mut [u8],
+    piece: &[u8],
+) -> Turn
+    requires { ⌜ Admitted (paperReader m) (length (now segment)) (length (now reassembly)) × (taken ≤ length (now piece)) ⌝ }
+    ensures { λ r. ⌜ TurnIs r taken (paperReader m) (now (segment .entry)) (now (reassembly .entry)) (now (piece .entry)) (now (segment .exit)) (now (reassembly .exit)) ⌝ }
+{
+    match settle(m, segment, reassembly) {
+        Due::Answered(answer, reader) => Turn::Done(step(reader, answer, taken)),
+        Due::Waits(reader) => {
+            if taken == piece.len() {
+                return Turn::Done(step(reader, Answer::More, taken));
+            }
+            let filled = fill(reader, segment, &piece[taken..]);
+            let next = taken + filled.took;
+            let grown = filled.reader;
+            Turn::On(grown, next)
+        }
+    }
+}
+
+// Each turn but the last takes a byte at least.
+pub(crate) fn work(reader: Reader, segment: &mut [u8], reassembly: &mut [u8], piece: &[u8]) -> Step
+    requires { ⌜ Admitted (paperReader reader) (length (now segment)) (length (now reassembly)) ⌝ }
+    ensures { λ r. ⌜ paperStep r (now (segment .exit)) (now (reassembly .exit)) ≡ work 0 (paperReader reader) (now (segment .entry)) (now (reassembly .entry)) (now (piece .entry)) ⌝ }
+{
+    let mut m = reader;
+    let mut taken: usize = 0;
+    loop {
+        match take_turn(m, taken, segment, reassembly, piece) {
+            Turn::Done(s) => {
+                return s;
+            }
+            Turn::On(next, so_far) => {
+                m = next;
+                taken = so_far;
+            }
+        }
+    }
+}
