@@ -5,3 +5,5 @@ pub mod Parts
 pub mod Tags
 pub mod Sound
 pub mod Works
+pub mod Told
+pub mod Determined

@@ -4,8 +4,8 @@ ghost use mathlib.Core.Path.{_≡_};
 ghost use Rattle.types.specs.Paper.{placeOf};
 ghost use Rattle.segment.specs.Paper.{paperForm};
 ghost use Rattle.frame_decoder.specs.Reader.{fresh, bytesAt, held};
-ghost use Rattle.frame_decoder.specs.Call.{outcome, call};
-ghost use Rattle.frame_decoder.specs.Paper.{paperReader, paperBuffer, paperAnswer, paperStep};
+ghost use Rattle.frame_decoder.specs.Call.{call};
+ghost use Rattle.frame_decoder.specs.Paper.{paperReader, paperBuffer, paperHeard, paperStep};
 use frame::Envelope;
 use refusal::Refusal;
 use segment::Form;
@@ -128,5 +128,14 @@ impl Reader {
         }
         let answer = Answer::Refused(Refusal::Inadmissible);
         work::step(self, answer, 0)
+    }
+
+    // The Rust's outer shape: the reader is lent, and the next one is stored in its place.
+    pub fn consume(&mut self, segment: &mut [u8], reassembly: &mut [u8], piece: &[u8]) -> Heard
+        ensures { λ r. ⌜ paperHeard r (now (self .exit)) (now (segment .exit)) (now (reassembly .exit)) ≡ call (paperReader (now (self .entry))) (now (segment .entry)) (now (reassembly .entry)) (now (piece .entry)) ⌝ }
+    {
+        let t = self.read(segment, reassembly, piece);
+        *self = t.reader;
+        t.heard
     }
 }
