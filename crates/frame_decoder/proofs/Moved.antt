@@ -7,8 +7,10 @@ use native.Mathlib.Numerals.{add-one}
 use native.Mathlib.Omega.{arith}
 use lib.ListN.{length, take, drop, getD, set, length-drop}
 use lib.Seq.{length-take-le, drop-cons, set-at, append-snoc, take-suc, getD-append-add, getD-drop}
+use Rattle.types.specs.Number.{part}
 use Rattle.types.specs.Write.{put}
 use Rattle.types.proofs.BigEndian.{length-part}
+use Rattle.types.proofs.Holds.{holds-part, put-same}
 use Rattle.frame_decoder.specs.Settle.{movedDown}
 
 -- i of the elements from at on stand at the front
@@ -39,3 +41,7 @@ pub moved-all : (d : List ℕ) (at n : ℕ) → at + n ≤ length d → moved d 
 unfolding put
 moved-all d at n h =
     ap (λ (k : ℕ). take n (drop at d) ++ drop k d) (sym (zero-add _ ∙ length-part d at n h))
+
+-- what stands at the front already is not moved
+pub moved-none : (d : List ℕ) (n : ℕ) → n ≤ length d → d ≡ movedDown d 0 n
+moved-none d n h = sym (put-same d 0 (part d 0 n) (holds-part d 0 n (omega (arith, zero-add n))))

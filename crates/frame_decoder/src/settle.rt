@@ -133,11 +133,15 @@ fn from_segment(m: Reader, segment: &[u8], len: usize, at: usize) -> Due
     Due::Answered(Answer::Envelope(Buffer::Segment, place, envelope), reader)
 }
 
-// n bytes from at on to the front; the bytes behind them keep what they held.
+// n bytes from at on to the front; the bytes behind them keep what they held. What stands there already is not touched: a call costs no more than the bytes that it
+// takes and reads.
 fn move_down(buffer: &mut [u8], at: usize, n: usize)
     requires { ⌜ at + n ≤ length (now buffer) ⌝ }
     ensures { λ _. ⌜ now (buffer .exit) ≡ movedDown (now (buffer .entry)) at n ⌝ }
 {
+    if at == 0 {
+        return;
+    }
     let mut i: usize = 0;
     while i < n {
         buffer[i] = buffer[at + i];
