@@ -7,7 +7,7 @@ use frame_decoder::Reader;
 use libc::STDIN_FILENO;
 use segment::Form;
 
-// Of both buffers.
+// How long both buffers are (12.1).
 const BUFFER_LEN: usize = 65_536;
 
 fn say_envelope(envelope: Envelope) {
@@ -52,7 +52,7 @@ enum Stream {
     Over,
 }
 
-// Where the rest of a piece starts, after a call took some bytes from start on.
+// Where the rest of a piece starts, after a call took some bytes from start on. None takes more than there are; the test spares a proof of that.
 fn rest_start(start: usize, taken: usize, len: usize) -> usize
     requires { ⌜ start ≤ len ⌝ }
     ensures { λ r. ⌜ r ≤ len ⌝ }
