@@ -1,4 +1,4 @@
-// What the programs share that answer a case a line: the words of a case, and the words of an answer.
+// What programs share: the words of a case, and the words of an answer.
 
 pub mod say;
 pub mod words;

@@ -1,4 +1,6 @@
 // What is written for a person: plain words and numbers.
+use frame::Direction;
+use frame::Header;
 use libc::STDOUT_FILENO;
 use refusal::Refusal;
 use types::Place;
@@ -73,6 +75,28 @@ pub fn spelt(before: &[u8], bytes: &[u8]) {
 pub fn refused(before: &[u8], why: Refusal) {
     text(before);
     io::print_decimal(STDOUT_FILENO, why.number() as u64);
+}
+
+fn direction(direction: Direction) {
+    match direction {
+        Direction::Request => text(b" req "),
+        Direction::Response => text(b" rsp "),
+    }
+}
+
+fn stream(stream: i16) {
+    integer(b" ", stream as i64);
+}
+
+// What an envelope's header says, but for the body's length.
+pub fn header(header: Header) {
+    let way = header.direction;
+    number(b" ", header.version as usize);
+    direction(way);
+    byte(header.flags);
+    stream(header.stream);
+    text(b" ");
+    byte(header.opcode);
 }
 
 // The next text of a walk and the rest behind it, or that it is over.

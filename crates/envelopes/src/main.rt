@@ -6,7 +6,6 @@ use cases::words::Number;
 use libc::STDIN_FILENO;
 use writes::Asked;
 
-mod outcome;
 mod reads;
 mod writes;
 

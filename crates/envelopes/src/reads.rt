@@ -1,5 +1,4 @@
 // The cases that read. Each answers whether the line was such a case.
-use crate::outcome;
 use cases::say;
 use cases::say::Rest;
 use cases::words;
@@ -47,7 +46,7 @@ fn whole(bytes: &[u8], envelope: Envelope) {
     let header = envelope.header;
     let body = envelope.body;
     say::number(b"whole ", envelope.size);
-    outcome::header(header);
+    say::header(header);
     say::spelt(b" id ", read::tracing_id(bytes, envelope));
     warnings(bytes, header.flags, envelope.warnings);
     say::number(b" body ", body.start);

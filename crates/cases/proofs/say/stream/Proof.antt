@@ -1,13 +1,13 @@
--- `envelopes::outcome::say_stream` is safe: what fits 16 bits fits 64. Assumes nothing.
+-- `cases::say::stream` is safe: what fits 16 bits fits 64. Assumes nothing.
 use borrow.Author.Needs.{needs}
 use native.Mathlib.Omega.{arith}
 use mir.Syntax.{w16}
 use mir.ValLaws.{toZ-ofZ}
-use Rattle.envelopes.proofs.outcome.say_stream.Statement.{statement}
-use Rattle.envelopes.proofs.outcome.say_stream.Tie as tie
+use Rattle.cases.proofs.say.stream.Statement.{statement}
+use Rattle.cases.proofs.say.stream.Tie as tie
 
-pub say-stream-spec : {M : Type 1} → statement M
-say-stream-spec =
+pub stream-spec : {M : Type 1} → statement M
+stream-spec =
     tie.close
     (tie.spec
     (λ c. search needs)
