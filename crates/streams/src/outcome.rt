@@ -90,7 +90,13 @@ fn say_envelope<'a>(
 
 fn say_answer<'a>(answer: Answer, segment: &'a [u8], reassembly: &'a [u8]) {
     match answer {
-        Answer::Envelope(buffer, place, envelope) => say_envelope(buffer, place, envelope, segment, reassembly),
+        Answer::Envelope(buffer, place, envelope) => say_envelope(
+            buffer,
+            place,
+            envelope,
+            segment,
+            reassembly,
+        ),
         Answer::Leftover(n) => say::number(b"leftover ", n),
         Answer::More => say::text(b"more"),
         Answer::Refused(why) => say::refused(b"refused ", why),

@@ -8,11 +8,11 @@ use Rattle.streams.proofs.calls.use_up_all.Statement.{statement}
 use Rattle.streams.proofs.calls.use_up_all.Tie as tie
 
 abbrev Inv-loop : tie.InvT-loop
-Inv-loop segment₀ reassembly₀ bytes lengths reader₀ unread₀ i₀ segment reassembly reader unread i =
+Inv-loop segment₀ reassembly₀ bytes lengths most reader₀ unread₀ i₀ segment reassembly reader unread i =
     (unread ≤ length bytes) × (length segment ≡ length segment₀) × (length reassembly ≡ length reassembly₀)
 
 abbrev μ-loop : tie.MeasureT-loop
-μ-loop segment₀ reassembly₀ bytes lengths reader₀ unread₀ i₀ segment reassembly reader unread i = length lengths - i
+μ-loop segment₀ reassembly₀ bytes lengths most reader₀ unread₀ i₀ segment reassembly reader unread i = length lengths - i
 
 pub use-up-all-spec : {M : Type 1} → statement M
 use-up-all-spec =
