@@ -1,9 +1,7 @@
 // What is written of a call and of the reader after it for a person: plain words and numbers.
 use cases::say;
 use crc::Running32;
-use frame::Direction;
 use frame::Envelope;
-use frame::Header;
 use frame_decoder::Answer;
 use frame_decoder::Buffer;
 use frame_decoder::Phase;
@@ -21,30 +19,9 @@ fn say_yes(before: &[u8], is_so: bool) {
     }
 }
 
-fn say_direction(direction: Direction) {
-    match direction {
-        Direction::Request => say::text(b" req "),
-        Direction::Response => say::text(b" rsp "),
-    }
-}
-
-fn say_stream(stream: i16) {
-    say::integer(b" ", stream as i64);
-}
-
 fn say_place(before: &[u8], place: Place) {
     say::number(before, place.start);
     say::number(b"+", place.len);
-}
-
-fn say_header(header: Header) {
-    let direction = header.direction;
-    say::number(b" ", header.version as usize);
-    say_direction(direction);
-    say::byte(header.flags);
-    say_stream(header.stream);
-    say::text(b" ");
-    say::byte(header.opcode);
 }
 
 // The whole reading (4.11).
@@ -53,7 +30,7 @@ fn say_reading(envelope: Envelope) {
     let warnings = envelope.warnings;
     let body = envelope.body;
     say::number(b" size ", envelope.size);
-    say_header(header);
+    say::header(header);
     say_yes(b" traced ", envelope.traced);
     say::number(b" warnings ", warnings.left as usize);
     say::number(b" from ", warnings.at);
