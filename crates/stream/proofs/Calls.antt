@@ -1,0 +1,345 @@
+-- One call: what it says of all that is to come, and what it leaves is admitted again. Assumes nothing.
+use Prim.Native.Nat.{ℕ, suc, _+_, _-_, _≤_, _<_}
+use mathlib.Core.Path.{_≡_, refl, sym, ap, ap₂, _∙_, subst}
+use mathlib.Core.Bool.{Bool, true, false, cond, _&&_}
+use mathlib.Core.List.{List, [], _∷_, _++_}
+use native.Mathlib.Nat.{add-zero}
+use native.Mathlib.Omega.{arith}
+use borrow.Author.Tests.{le-leb, eq-eqb, eqb-true, leb-true}
+use lib.Dec.{leb, eqb}
+use lib.ListN.{length, take, drop, length-append, length-drop}
+use lib.Seq.{length-take-le}
+use Rattle.basis.specs.Front.{Front, incomplete, refuses, whole}
+use Rattle.types.specs.Write.{put}
+use Rattle.types.proofs.Cut.{both-true}
+use Rattle.types.proofs.Put.{length-put}
+use Rattle.segment.specs.Header.{Form, header, headerLength}
+use Rattle.segment.specs.Segment.{Segment, segmentLength, maxPayload, headerAt, payloadAt}
+use Rattle.segment.proofs.Cases.{payload-cut, payload-is}
+use Rattle.segment.proofs.HeaderLaid.{head-most}
+use Rattle.frame_decoder.specs.Reader.{Phase, inHeader, inRest, inSegment, inReassembly, stopped, Reader, inPhase, Answer, envelopeAt, leftover, more, refused, bytesAt, minSegment, maxSegment, minReassembly, maxReassembly, between, lentFits, payloadFits, countsFit, admissible}
+use Rattle.frame_decoder.specs.Settle.{Due, due, waits, Settled, settled, settle}
+use Rattle.frame_decoder.specs.Call.{Outcome, outcome, stored, grown, pushed, work, call}
+use Rattle.frame_decoder.specs.Inside.{Counts, Admitted, wanted}
+use Rattle.frame_decoder.proofs.Admits.{between-true, admitted}
+use Rattle.frame_decoder.proofs.Sound.{Sound, settle-sound}
+use Rattle.frame_decoder.proofs.Works.{work-due, work-more, work-push}
+use Rattle.stream.specs.Meaning.{Lent, Said, envelopeOf, leftoverOf, Meaning, says, refusedAfter, segmentIn, judged, meaningFrom}
+use Rattle.stream.specs.Caller.{undelivered}
+use Rattle.stream.proofs.Lists.{take-put}
+use Rattle.stream.proofs.Heads.{header-behind, in-header, roomy-header}
+use Rattle.stream.proofs.Rest.{lentOf, judging, restAt, rest, Agrees, Speaks, Stops, Waits, Tells, settle-tells}
+
+-- ---- readers that are not refused with 1
+
+pub record Ready (r : Reader) (seg re : List ℕ) : Type 0 where
+  pub segment : length seg ≡ r .segment
+  pub reassembly : length re ≡ r .reassembly
+  pub least : minReassembly ≤ length re
+  pub ok : Admitted r (length seg) (length re)
+
+both : {a b : Bool} → a ≡ true → b ≡ true → (a && b) ≡ true
+both {a} {b} p q = ap₂ (λ (x y : Bool). x && y) p q
+
+counts-fit : (f : Form) (room pending : ℕ) (q : Phase) → Counts f room pending q → countsFit f room pending q ≡ true
+unfolding countsFit payloadFits
+counts-fit f room pending (inHeader n) k = le-leb n (headerLength f) k
+counts-fit f room pending (inRest n len self) k =
+    both (both (le-leb len maxPayload (k .0)) (le-leb (segmentLength f len) room (k .1))) (le-leb n (segmentLength f len) (k .2))
+counts-fit f room pending (inSegment len at) k = both (both (le-leb len maxPayload (k .0)) (le-leb (segmentLength f len) room (k .1))) (le-leb at len (k .2))
+counts-fit f room pending (inReassembly at) k = le-leb at pending k
+counts-fit f room pending (stopped number) k = refl
+
+module _ (r : Reader) (seg re : List ℕ) where
+  pub ready-admissible : Ready r seg re → admissible r (length seg) (length re) ≡ true
+  unfolding admissible lentFits
+  ready-admissible t =
+      let a : ℕ = length seg in
+      let b : ℕ = length re in
+      both
+      (both (both (both (le-leb minSegment a (t .ok .least)) (le-leb a maxSegment (t .ok .most))) (both (le-leb minReassembly b (t .least)) (le-leb b maxReassembly (t .ok .largest))))
+      (both (eq-eqb a (r .segment) (t .segment)) (eq-eqb b (r .reassembly) (t .reassembly))))
+      (both (le-leb (r .pending) b (t .ok .held)) (counts-fit (r .form) a (r .pending) (r .phase) (t .ok .counts)))
+
+  pub admissible-ready : admissible r (length seg) (length re) ≡ true → Ready r seg re
+  unfolding admissible lentFits
+  admissible-ready e =
+      let a : ℕ = length seg in
+      let b : ℕ = length re in
+      let t = both-true (lentFits r a b) (leb (r .pending) b && countsFit (r .form) a (r .pending) (r .phase)) e in
+      let v = both-true (between minSegment maxSegment a && between minReassembly maxReassembly b) (eqb a (r .segment) && eqb b (r .reassembly)) (t .0) in
+      let w = both-true (between minSegment maxSegment a) (between minReassembly maxReassembly b) (v .0) in
+      let u = both-true (eqb a (r .segment)) (eqb b (r .reassembly)) (v .1) in
+      record {
+        segment = eqb-true a (r .segment) (u .0);
+        reassembly = eqb-true b (r .reassembly) (u .1);
+        least = between-true minReassembly maxReassembly b (w .1) .0;
+        ok = admitted r a b e;
+      }
+
+-- ---- one byte
+
+-- a segment that is not yet there takes one byte more
+one-more : (z : Lent) (pending s : List ℕ) (taken b : ℕ) (stream : List ℕ) → segmentIn z s ≡ incomplete
+    → judging z pending s taken (b ∷ stream) ≡ judging z pending (s ++ b ∷ []) (suc taken) stream
+unfolding meaningFrom
+one-more z pending s taken b stream e =
+    ap (λ (f : Front Segment). judged z f pending s taken (λ pending′ s′. meaningFrom z taken pending′ s′ (b ∷ stream))) e
+
+pub record Pushes (r : Reader) (q : Phase) (seg re : List ℕ) (b : ℕ) : Type 0 where
+  pub long : length (stored q seg (b ∷ [])) ≡ length seg
+  pub counts : Counts (r .form) (length seg) (r .pending) (grown 1 q)
+  pub most : undelivered (r .pending) (grown 1 q) ≤ suc (undelivered (r .pending) q)
+  pub agrees : Agrees (r .form) q seg → Agrees (r .form) (grown 1 q) (stored q seg (b ∷ []))
+  pub same : Agrees (r .form) q seg → (taken : ℕ) (stream : List ℕ)
+      → restAt (lentOf r) (r .pending) q seg re taken (b ∷ stream) ≡ restAt (lentOf r) (r .pending) (grown 1 q) (stored q seg (b ∷ [])) re (suc taken) stream
+
+module _ (r : Reader) (seg re : List ℕ) (b : ℕ) (cap : length seg ≡ r .segment) (least : minSegment ≤ length seg) where
+  -- the bytes at hand, with one more
+  one-put : (n : ℕ) → n < length seg → take (n + 1) (put seg n (b ∷ [])) ≡ take n seg ++ b ∷ []
+  one-put n h = take-put seg (b ∷ []) n (n + 1) (omega arith) refl
+
+  pushes : (q : Phase) → Counts (r .form) (length seg) (r .pending) q → 0 < wanted (r .form) q → Pushes r q seg re b
+  unfolding grown stored
+  pushes (inHeader n) k w =
+      let h : n < length seg = omega (arith, head-most (r .form)) in
+      let l : length (take n seg) ≡ n = length-take-le n seg (omega arith) in
+      record {
+        long = length-put seg n (b ∷ []) (omega arith);
+        counts = omega arith;
+        most = omega arith;
+        agrees = λ a. tt;
+        same =
+            λ a taken stream. one-more (lentOf r) (take (r .pending) re) (take n seg) taken b stream (in-header (lentOf r) (take n seg) (omega arith))
+            ∙ ap (λ (s : List ℕ). judging (lentOf r) (take (r .pending) re) s (suc taken) stream) (sym (one-put n h));
+      }
+  pushes (inRest n len self) k w =
+      let room : segmentLength (r .form) len ≤ length seg = k .1 in
+      let h : n < length seg = omega arith in
+      let l : length (take n seg) ≡ n = length-take-le n seg (omega arith) in
+      record {
+        long = length-put seg n (b ∷ []) (omega arith);
+        counts = (k .0, room, omega arith);
+        most = omega arith;
+        agrees =
+            λ a. (
+              omega (arith, a .0),
+              ap (headerAt (r .form)) (one-put n h) ∙ header-behind (r .form) (take n seg) (b ∷ []) (omega (arith, a .0)) ∙ a .1,
+            );
+        same =
+            λ a taken stream. one-more (lentOf r) (take (r .pending) re) (take n seg) taken b stream
+            (roomy-header (lentOf r) (take n seg) (header len 0 self) (a .1) (omega arith)
+            ∙ payload-is (r .form) (take n seg) (header len 0 self) (payload-cut (omega arith)))
+            ∙ ap (λ (s : List ℕ). judging (lentOf r) (take (r .pending) re) s (suc taken) stream) (sym (one-put n h));
+      }
+  pushes (inSegment len at) k w = absurd (omega arith)
+  pushes (inReassembly at) k w = absurd (omega arith)
+  pushes (stopped number) k w = absurd (omega arith)
+
+-- ---- a call
+
+pub record Spoken (r : Reader) (seg re piece : List ℕ) (count : ℕ) (x : Said) (r′ : Reader) (seg′ re′ : List ℕ) : Type 0 where
+  pub less : undelivered (r′ .pending) (r′ .phase) + length (drop count piece) < undelivered (r .pending) (r .phase) + length piece
+  pub agrees : Agrees (r .form) (r .phase) seg → Agrees (r′ .form) (r′ .phase) seg′
+  pub same : Agrees (r .form) (r .phase) seg → (taken : ℕ) (stream : List ℕ) → rest r seg re taken (piece ++ stream) ≡ says x (rest r′ seg′ re′ (taken + count) (drop count piece ++ stream))
+
+pub record Stopped (r : Reader) (seg re piece : List ℕ) (count number : ℕ) (r′ : Reader) : Type 0 where
+  pub stays : r′ .phase ≡ stopped number
+  pub same : Agrees (r .form) (r .phase) seg → (taken : ℕ) (stream : List ℕ) → rest r seg re taken (piece ++ stream) ≡ refusedAfter number (taken + count)
+
+pub record Waiting (r : Reader) (seg re piece : List ℕ) (count : ℕ) (r′ : Reader) (seg′ re′ : List ℕ) : Type 0 where
+  pub all : count ≡ length piece
+  pub wanting : 0 < wanted (r′ .form) (r′ .phase)
+  pub agrees : Agrees (r .form) (r .phase) seg → Agrees (r′ .form) (r′ .phase) seg′
+  pub same : Agrees (r .form) (r .phase) seg → (taken : ℕ) (stream : List ℕ) → rest r seg re taken (piece ++ stream) ≡ rest r′ seg′ re′ (taken + count) stream
+
+abbrev pub Told : Reader → List ℕ → List ℕ → List ℕ → ℕ → Answer → Reader → List ℕ → List ℕ → Type 0
+Told r seg re piece count (envelopeAt buffer at e) r′ seg′ re′ = Spoken r seg re piece count (envelopeOf (bytesAt buffer seg′ re′ at) e) r′ seg′ re′
+Told r seg re piece count (leftover n) r′ seg′ re′ = Spoken r seg re piece count (leftoverOf n) r′ seg′ re′
+Told r seg re piece count more r′ seg′ re′ = Waiting r seg re piece count r′ seg′ re′
+Told r seg re piece count (refused number) r′ seg′ re′ = Stopped r seg re piece count number r′
+
+-- so many bytes were taken before
+pub record Called (r : Reader) (seg re piece : List ℕ) (before : ℕ) (o : Outcome) : Type 0 where
+  pub count : ℕ
+  pub is : o .taken ≡ before + count
+  pub within : count ≤ length piece
+  pub ready : Ready (o .reader) (o .segment) (o .reassembly)
+  pub told : Told r seg re piece count (o .answer) (o .reader) (o .segment) (o .reassembly)
+
+module _ (r : Reader) (seg re : List ℕ) (t : Ready r seg re) where
+  -- what settling leaves is ready again
+  ready-settled : {x : Reader} {re′ : List ℕ} → lentOf x ≡ lentOf r → Admitted x (length seg) (length re) → length re′ ≡ length re → Ready x seg re′
+  ready-settled {x} {re′} l ok e =
+      record {
+        segment = t .segment ∙ sym (ap (λ (y : Lent). y .segment) l);
+        reassembly = e ∙ t .reassembly ∙ sym (ap (λ (y : Lent). y .reassembly) l);
+        least = omega (arith, t .least);
+        ok = subst (λ (n : ℕ). Admitted x (length seg) n) (sym e) ok;
+      }
+
+  spoken-at-once : (piece : List ℕ) (said : Said) (x : Reader) (re′ : List ℕ) → Speaks r (r .phase) seg re said x re′ → Spoken r seg re piece 0 said x seg re′
+  spoken-at-once piece said x re′ d =
+      record {
+        less = omega (arith, d .less);
+        agrees = λ a. d .agrees;
+        same = λ a taken stream. d .same a taken (piece ++ stream) ∙ ap (λ (k : ℕ). says said (rest x seg re′ k (piece ++ stream))) (sym (add-zero taken));
+      }
+
+  -- an answer that is due at once
+  at-once : (piece : List ℕ) (before : ℕ) (answer : Answer) (x : Reader) (re′ : List ℕ) → Admitted x (length seg) (length re) → length re′ ≡ length re → Tells r (r .phase) seg re (due answer x) re′
+      → Called r seg re piece before (outcome answer before x seg re′)
+  at-once piece before (envelopeAt buffer at e) x re′ ok l d =
+      record {
+        count = 0;
+        is = sym (add-zero before);
+        within = omega arith;
+        ready = ready-settled (d .lends) ok l;
+        told = spoken-at-once piece (envelopeOf (bytesAt buffer seg re′ at) e) x re′ d;
+      }
+  at-once piece before (leftover n) x re′ ok l d =
+      record {
+        count = 0;
+        is = sym (add-zero before);
+        within = omega arith;
+        ready = ready-settled (d .lends) ok l;
+        told = spoken-at-once piece (leftoverOf n) x re′ d;
+      }
+  at-once piece before more x re′ ok l d = absurd d
+  at-once piece before (refused number) x re′ ok l d =
+      record {
+        count = 0;
+        is = sym (add-zero before);
+        within = omega arith;
+        ready = ready-settled (d .lends) ok l;
+        told = record { stays = d .stays; same = λ a taken stream. d .same a taken (piece ++ stream) ∙ ap (refusedAfter number) (sym (add-zero taken)) };
+      }
+
+  -- nothing is due, and no byte is there
+  asks : (before : ℕ) (x : Reader) (re′ : List ℕ) → Admitted x (length seg) (length re) → length re′ ≡ length re → 0 < wanted (x .form) (x .phase) → Waits r (r .phase) seg re x re′
+      → Called r seg re [] before (outcome more before x seg re′)
+  asks before x re′ ok l w d =
+      record {
+        count = 0;
+        is = sym (add-zero before);
+        within = omega arith;
+        ready = ready-settled (d .lends) ok l;
+        told = record {
+          all = refl;
+          wanting = w;
+          agrees = d .agrees;
+          same = λ a taken stream. d .same a taken stream ∙ ap (λ (k : ℕ). rest x seg re′ k stream) (sym (add-zero taken));
+        };
+      }
+
+  -- nothing is due, and a byte is taken before what the rest of the call says
+  module _ (b : ℕ) (piece : List ℕ) (before : ℕ) (x : Reader) (re′ : List ℕ) (ok : Admitted x (length seg) (length re)) (l : length re′ ≡ length re) (w : 0 < wanted (x .form) (x .phase))
+      (d : Waits r (r .phase) seg re x re′) where
+    abbrev y : Reader
+    y = pushed 1 x
+
+    abbrev seg′ : List ℕ
+    seg′ = stored (x .phase) seg (b ∷ [])
+
+    abbrev ready-x : Ready x seg re′
+    ready-x = ready-settled (d .lends) ok l
+
+    abbrev pushes-x : Pushes x (x .phase) seg re′ b
+    pushes-x = pushes x seg re′ b (ready-x .segment) (ok .least) (x .phase) (ok .counts) w
+
+    ready-y : Ready y seg′ re′
+    ready-y =
+        let p = pushes-x in
+        let s = ready-x in
+        record {
+          segment = p .long ∙ s .segment;
+          reassembly = s .reassembly;
+          least = s .least;
+          ok = record {
+            least = omega (arith, p .long, ok .least);
+            most = omega (arith, p .long, ok .most);
+            held = s .ok .held;
+            largest = s .ok .largest;
+            counts = subst (λ (n : ℕ). Counts (x .form) n (x .pending) (grown 1 (x .phase))) (sym (p .long)) (p .counts);
+          };
+        }
+
+    agrees-y : Agrees (r .form) (r .phase) seg → Agrees (y .form) (y .phase) seg′
+    agrees-y a = pushes-x .agrees (d .agrees a)
+
+    same-y : Agrees (r .form) (r .phase) seg → (taken : ℕ) (stream : List ℕ) → rest r seg re taken (b ∷ stream) ≡ rest y seg′ re′ (suc taken) stream
+    same-y a taken stream = d .same a taken (b ∷ stream) ∙ pushes-x .same (d .agrees a) taken stream
+
+    later : (taken count : ℕ) → suc taken + count ≡ taken + suc count
+    later taken count = omega arith
+
+    spoken-later : (count : ℕ) (said : Said) (r″ : Reader) (seg″ re″ : List ℕ) → Spoken y seg′ re′ piece count said r″ seg″ re″ → Spoken r seg re (b ∷ piece) (suc count) said r″ seg″ re″
+    spoken-later count said r″ seg″ re″ t =
+        record {
+          less = omega (arith, t .less, pushes-x .most, d .most);
+          agrees = λ a. t .agrees (agrees-y a);
+          same =
+              λ a taken stream. same-y a taken (piece ++ stream)
+              ∙ t .same (agrees-y a) (suc taken) stream
+              ∙ ap (λ (k : ℕ). says said (rest r″ seg″ re″ k (drop count piece ++ stream))) (later taken count);
+        }
+
+    told-later : (count : ℕ) (answer : Answer) (r″ : Reader) (seg″ re″ : List ℕ) → Told y seg′ re′ piece count answer r″ seg″ re″ → Told r seg re (b ∷ piece) (suc count) answer r″ seg″ re″
+    told-later count (envelopeAt buffer at e) r″ seg″ re″ t = spoken-later count (envelopeOf (bytesAt buffer seg″ re″ at) e) r″ seg″ re″ t
+    told-later count (leftover n) r″ seg″ re″ t = spoken-later count (leftoverOf n) r″ seg″ re″ t
+    told-later count more r″ seg″ re″ t =
+        record {
+          all = ap suc (t .all);
+          wanting = t .wanting;
+          agrees = λ a. t .agrees (agrees-y a);
+          same = λ a taken stream. same-y a taken (piece ++ stream) ∙ t .same (agrees-y a) (suc taken) stream ∙ ap (λ (k : ℕ). rest r″ seg″ re″ k stream) (later taken count);
+        }
+    told-later count (refused number) r″ seg″ re″ t =
+        record { stays = t .stays; same = λ a taken stream. same-y a taken (piece ++ stream) ∙ t .same (agrees-y a) (suc taken) stream ∙ ap (refusedAfter number) (later taken count) }
+
+    one-later : (o : Outcome) → Called y seg′ re′ piece (suc before) o → Called r seg re (b ∷ piece) before o
+    one-later o t =
+        record {
+          count = suc (t .count);
+          is = t .is ∙ later before (t .count);
+          within = omega (arith, t .within);
+          ready = t .ready;
+          told = told-later (t .count) (o .answer) (o .reader) (o .segment) (o .reassembly) (t .told);
+        }
+
+-- by what settling says
+module _ (before : ℕ) (r : Reader) (seg re : List ℕ) (t : Ready r seg re) where
+  called-last : (d : Due) (re′ : List ℕ) → settle r seg re ≡ settled d re′ → Sound (length seg) (length re) d re′ → Tells r (r .phase) seg re d re′ → Called r seg re [] before (work before r seg re [])
+  called-last (due answer x) re′ e s d = subst (Called r seg re [] before) (sym (work-due before seg r re [] e)) (at-once r seg re t [] before answer x re′ (s .0) (s .1) d)
+  called-last (waits x) re′ e s d = subst (Called r seg re [] before) (sym (work-more before seg r re e)) (asks r seg re t before x re′ (s .0) (s .1) (s .2) d)
+
+  called-next : (b : ℕ) (piece : List ℕ) (d : Due) (re′ : List ℕ) → settle r seg re ≡ settled d re′ → Sound (length seg) (length re) d re′ → Tells r (r .phase) seg re d re′
+      → ((x : Reader) (seg₁ re₁ : List ℕ) → Ready x seg₁ re₁ → Called x seg₁ re₁ piece (suc before) (work (suc before) x seg₁ re₁ piece))
+      → Called r seg re (b ∷ piece) before (work before r seg re (b ∷ piece))
+  called-next b piece (due answer x) re′ e s d goes-on =
+      subst (Called r seg re (b ∷ piece) before) (sym (work-due before seg r re (b ∷ piece) e)) (at-once r seg re t (b ∷ piece) before answer x re′ (s .0) (s .1) d)
+  called-next b piece (waits x) re′ e s d goes-on =
+      subst (Called r seg re (b ∷ piece) before) (sym (work-push before seg r re b piece e))
+      (one-later r seg re t b piece before x re′ (s .0) (s .1) (s .2) d _ (goes-on _ _ _ (ready-y r seg re t b piece before x re′ (s .0) (s .1) (s .2) d)))
+
+work-called : (piece : List ℕ) (before : ℕ) (r : Reader) (seg re : List ℕ) → Ready r seg re → Called r seg re piece before (work before r seg re piece)
+work-called [] before r seg re t =
+    called-last before r seg re t (settle r seg re .says) (settle r seg re .reassembly) refl (settle-sound r (length seg) (length re) (t .ok) seg re refl refl)
+    (settle-tells r seg re (t .segment) (t .reassembly) (t .ok))
+work-called (b ∷ piece) before r seg re t =
+    called-next before r seg re t b piece (settle r seg re .says) (settle r seg re .reassembly) refl (settle-sound r (length seg) (length re) (t .ok) seg re refl refl)
+    (settle-tells r seg re (t .segment) (t .reassembly) (t .ok)) (λ x seg₁ re₁ t₁. work-called piece (suc before) x seg₁ re₁ t₁)
+
+-- ---- 1 is tested first
+
+module _ (r : Reader) (seg re piece : List ℕ) where
+  pub call-works : Ready r seg re → call r seg re piece ≡ work 0 r seg re piece
+  unfolding call
+  call-works t = ap (λ (b : Bool). cond b (work 0 r seg re piece) (outcome (refused 1) 0 r seg re)) (ready-admissible r seg re t)
+
+  pub call-refused : admissible r (length seg) (length re) ≡ false → call r seg re piece ≡ outcome (refused 1) 0 r seg re
+  unfolding call
+  call-refused e = ap (λ (b : Bool). cond b (work 0 r seg re piece) (outcome (refused 1) 0 r seg re)) e
+
+  pub called : Ready r seg re → Called r seg re piece 0 (call r seg re piece)
+  called t = subst (Called r seg re piece 0) (sym (call-works t)) (work-called piece 0 r seg re t)

@@ -1,0 +1,8 @@
+-- Demand 3 and the laws that lead to it.
+pub mod Lists
+pub mod Envelopes
+pub mod Heads
+pub mod Rest
+pub mod Calls
+pub mod Pieces
+pub mod Segments

@@ -1,0 +1,4 @@
+-- What a stream means, what a caller hears of it in pieces, and which streams are legal: docs/RULES.md, sections 6 and 10.
+pub mod Meaning
+pub mod Segments
+pub mod Caller

@@ -1,0 +1,6 @@
+// A stream in pieces.
+pub fn least() -> usize
+
+{
+    0
+}
