@@ -24,18 +24,10 @@ use Rattle.types.proofs.Reading.{natural-some}
 use Rattle.frame.specs.Header.{Header, headerOf, flag, hasId, hasWarnings, knownVersion}
 use Rattle.basis.specs.Front.{whole}
 use Rattle.frame.specs.Envelope.{declared, sizeOf, Envelope, envelopeWith, afterId, warningsAt, within, inside, envelope, idIn, bodyIn, textsOf, warningsIn}
-use Rattle.frame.specs.Write.{Content, idPart, warningsPart, tailBytes, clearedFlags, headerBytes, envelopeBytes, envelopeCheck}
+use Rattle.frame.specs.Write.{Content, idPart, warningsPart, tailBytes, clearedFlags, headerBytes, envelopeBytes, envelopeCheck, cleared, textsPart}
 use Rattle.frame.proofs.Cases.{fits, size-is, read, within-is, warnings-there, warnings-none, envelope-inside}
 use Rattle.frame.proofs.Checked.{Fits, fields-fit, version-small, list-there, list-none, check-there, tail-length}
 use Rattle.frame.proofs.Laid.{header-length, envelope-length}
-
--- flag 01 is not written
-unfoldable pub cleared : Header → Header
-cleared h = record { version = h .version; response = h .response; flags = clearedFlags (h .flags); stream = h .stream; opcode = h .opcode }
-
--- the texts of the warnings, where they are written
-unfoldable pub textsPart : Header → Content → List (List ℕ)
-textsPart h c = cond (hasWarnings h) (cutBy (c .text) (c .lens)) []
 
 -- what bytes that begin with the envelope are read as
 pub record ReadBack (s : List ℕ) (h : Header) (c : Content) : Type 0 where

@@ -81,3 +81,13 @@ envelopeCheck h c =
     demand (headFits h (length (c .id))) 15
     (demand (leb (length (tailBytes h c)) maxBody) 15
     (warningsCheck h (c .text) (c .lens)))
+
+-- ---- 11.1: what is read of them again
+
+-- flag 01 is not written
+unfoldable pub cleared : Header → Header
+cleared h = record { version = h .version; response = h .response; flags = clearedFlags (h .flags); stream = h .stream; opcode = h .opcode }
+
+-- the texts of the warnings, where they are written
+unfoldable pub textsPart : Header → Content → List (List ℕ)
+textsPart h c = cond (hasWarnings h) (cutBy (c .text) (c .lens)) []

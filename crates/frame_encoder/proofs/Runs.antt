@@ -27,7 +27,7 @@ wrote-refused : {size taken number : ℕ} → refused number ≡ wrote size take
 wrote-refused e = let z : _≡_ {A = ℕ} 0 1 = cc in omega arith
 
 -- its check has passed, and it left what it should
-passed : (c : Check) (w : Writer) (out : List ℕ) (d : Done) {v : Writer} {size taken : ℕ} {end : List ℕ} → unless c w out d ≡ done v (wrote size taken) end
+pub passed : (c : Check) (w : Writer) (out : List ℕ) (d : Done) {v : Writer} {size taken : ℕ} {end : List ℕ} → unless c w out d ≡ done v (wrote size taken) end
     → (c ≡ fine) × (d ≡ done v (wrote size taken) end)
 passed fine w out d e = (refl, e)
 passed (against number) w out d e = absurd (wrote-refused (ap (λ (x : Done). x .reply) e))

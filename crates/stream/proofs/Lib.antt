@@ -6,3 +6,5 @@ pub mod Rest
 pub mod Calls
 pub mod Pieces
 pub mod Segments
+pub mod Legal
+pub mod Sent

@@ -2,3 +2,5 @@
 pub mod Meaning
 pub mod Segments
 pub mod Caller
+pub mod Legal
+pub mod Sent
