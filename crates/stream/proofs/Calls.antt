@@ -26,17 +26,13 @@ use Rattle.frame_decoder.proofs.Sound.{Sound, settle-sound}
 use Rattle.frame_decoder.proofs.Works.{work-due, work-more, work-push}
 use Rattle.stream.specs.Meaning.{Lent, Said, envelopeOf, leftoverOf, Meaning, says, refusedAfter, segmentIn, judged, meaningFrom}
 use Rattle.stream.specs.Caller.{undelivered}
+use Rattle.stream.specs.Collect.{saidLength}
+use Rattle.stream.specs.Inside.{lentOf, judging, restAt, rest, Agrees, Ready}
 use Rattle.stream.proofs.Lists.{take-put}
 use Rattle.stream.proofs.Heads.{header-behind, in-header, roomy-header}
-use Rattle.stream.proofs.Rest.{lentOf, judging, restAt, rest, Agrees, Speaks, Stops, Waits, Tells, settle-tells}
+use Rattle.stream.proofs.Rest.{Speaks, Stops, Waits, Tells, settle-tells}
 
 -- ---- readers that are not refused with 1
-
-pub record Ready (r : Reader) (seg re : List ℕ) : Type 0 where
-  pub segment : length seg ≡ r .segment
-  pub reassembly : length re ≡ r .reassembly
-  pub least : minReassembly ≤ length re
-  pub ok : Admitted r (length seg) (length re)
 
 both : {a b : Bool} → a ≡ true → b ≡ true → (a && b) ≡ true
 both {a} {b} p q = ap₂ (λ (x y : Bool). x && y) p q
@@ -139,6 +135,7 @@ module _ (r : Reader) (seg re : List ℕ) (b : ℕ) (cap : length seg ≡ r .seg
 -- ---- a call
 
 pub record Spoken (r : Reader) (seg re piece : List ℕ) (count : ℕ) (x : Said) (r′ : Reader) (seg′ re′ : List ℕ) : Type 0 where
+  pub small : saidLength x ≤ maxReassembly
   pub less : undelivered (r′ .pending) (r′ .phase) + length (drop count piece) < undelivered (r .pending) (r .phase) + length piece
   pub agrees : Agrees (r .form) (r .phase) seg → Agrees (r′ .form) (r′ .phase) seg′
   pub same : Agrees (r .form) (r .phase) seg → (taken : ℕ) (stream : List ℕ) → rest r seg re taken (piece ++ stream) ≡ says x (rest r′ seg′ re′ (taken + count) (drop count piece ++ stream))
@@ -181,6 +178,7 @@ module _ (r : Reader) (seg re : List ℕ) (t : Ready r seg re) where
   spoken-at-once : (piece : List ℕ) (said : Said) (x : Reader) (re′ : List ℕ) → Speaks r (r .phase) seg re said x re′ → Spoken r seg re piece 0 said x seg re′
   spoken-at-once piece said x re′ d =
       record {
+        small = d .small;
         less = omega (arith, d .less);
         agrees = λ a. d .agrees;
         same = λ a taken stream. d .same a taken (piece ++ stream) ∙ ap (λ (k : ℕ). says said (rest x seg re′ k (piece ++ stream))) (sym (add-zero taken));
@@ -247,7 +245,7 @@ module _ (r : Reader) (seg re : List ℕ) (t : Ready r seg re) where
     abbrev pushes-x : Pushes x (x .phase) seg re′ b
     pushes-x = pushes x seg re′ b (ready-x .segment) (ok .least) (x .phase) (ok .counts) w
 
-    ready-y : Ready y seg′ re′
+    pub ready-y : Ready y seg′ re′
     ready-y =
         let p = pushes-x in
         let s = ready-x in
@@ -276,6 +274,7 @@ module _ (r : Reader) (seg re : List ℕ) (t : Ready r seg re) where
     spoken-later : (count : ℕ) (said : Said) (r″ : Reader) (seg″ re″ : List ℕ) → Spoken y seg′ re′ piece count said r″ seg″ re″ → Spoken r seg re (b ∷ piece) (suc count) said r″ seg″ re″
     spoken-later count said r″ seg″ re″ t =
         record {
+          small = t .small;
           less = omega (arith, t .less, pushes-x .most, d .most);
           agrees = λ a. t .agrees (agrees-y a);
           same =

@@ -8,3 +8,4 @@ pub mod Pieces
 pub mod Segments
 pub mod Legal
 pub mod Sent
+pub mod Left

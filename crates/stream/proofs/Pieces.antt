@@ -20,9 +20,9 @@ use Rattle.frame_decoder.specs.Inside.{Counts, wanted}
 use Rattle.frame_decoder.proofs.Admits.{between-true}
 use Rattle.stream.specs.Meaning.{Lent, lent, Said, envelopeOf, leftoverOf, Meaning, says, refusedAfter, holding, segmentIn, judged, meaningFrom, meaning}
 use Rattle.stream.specs.Caller.{inRange, segmentHeld, pendingHeld, holds, Hears, all-given, hears-more, hears-envelope, hears-leftover, hears-refusal, UsedUp, by-more, by-refusal, after-envelope, after-leftover, undelivered}
+use Rattle.stream.specs.Inside.{lentOf, judging, restAt, rest, Agrees, Ready}
 use Rattle.stream.proofs.Heads.{in-header, roomy-header, nothing-seen}
-use Rattle.stream.proofs.Rest.{lentOf, judging, restAt, rest, Agrees}
-use Rattle.stream.proofs.Calls.{Ready, ready-admissible, admissible-ready, Spoken, Stopped, Waiting, Told, Called, call-refused, called}
+use Rattle.stream.proofs.Calls.{ready-admissible, admissible-ready, Spoken, Stopped, Waiting, Told, Called, call-refused, called}
 
 -- ---- a reader that waits for bytes
 

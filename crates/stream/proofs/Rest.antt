@@ -22,48 +22,24 @@ use Rattle.segment.proofs.HeaderLaid.{head-most}
 use Rattle.segment.proofs.ReadWritten.{header-found}
 use Rattle.frame.specs.Envelope.{Envelope, envelope}
 use Rattle.frame.proofs.Bounds.{nine-or-more, within-bytes}
-use Rattle.frame_decoder.specs.Reader.{Phase, inHeader, inRest, inSegment, inReassembly, stopped, Reader, keeping, inPhase, segmentBuffer, reassemblyBuffer, bytesAt, Answer, envelopeAt, leftover, more, refused}
+use Rattle.frame_decoder.specs.Reader.{Phase, inHeader, inRest, inSegment, inReassembly, stopped, Reader, keeping, inPhase, segmentBuffer, reassemblyBuffer, bytesAt, Answer, envelopeAt, leftover, more, refused, maxReassembly}
 use Rattle.frame_decoder.specs.Settle.{Due, due, waits, Settled, settled, refusing, headerDue, leftoverDue, fromSegment, readSegment, movedDown, fromPending, readPending, readAlone, readJoined, received, segmentDue, settleAt, settle}
 use Rattle.frame_decoder.specs.Inside.{Counts, Admitted}
 use Rattle.frame_decoder.proofs.Parts.{part-taken}
 use Rattle.stream.specs.Meaning.{Lent, lent, Said, envelopeOf, leftoverOf, Meaning, says, refusedAfter, behindHeader, segmentIn, envelopesIn, dropping, bySegment, judged, meaningFrom}
 use Rattle.stream.specs.Caller.{undelivered}
+use Rattle.stream.specs.Collect.{saidLength}
+use Rattle.stream.specs.Inside.{lentOf, judging, restAt, rest, Agrees}
 use Rattle.stream.proofs.Lists.{part-rest, part-first, bytes-part, take-put}
 use Rattle.stream.proofs.Envelopes.{none-whole, first-refused, first-whole}
 use Rattle.stream.proofs.Heads.{by-header, roomy-header, nothing-seen}
-
-abbrev pub lentOf : Reader → Lent
-lentOf r = lent (r .form) (r .segment) (r .reassembly)
-
--- bytes of a segment are at hand, and are still to be judged
-abbrev pub judging : Lent → List ℕ → List ℕ → ℕ → List ℕ → Meaning
-judging z pending s taken stream = judged z (segmentIn z s) pending s taken (λ pending′ s′. meaningFrom z taken pending′ s′ stream)
-
--- what is still to come, with so many bytes taken and these bytes of the stream to come
-abbrev pub restAt : Lent → ℕ → Phase → List ℕ → List ℕ → ℕ → List ℕ → Meaning
-restAt z pending (inHeader n) seg re taken stream = judging z (take pending re) (take n seg) taken stream
-restAt z pending (inRest n len self) seg re taken stream = judging z (take pending re) (take n seg) taken stream
-restAt z pending (inSegment len at) seg re taken stream =
-    envelopesIn 0 (part seg (headerLength (z .form) + at) (len - at)) taken (λ unread. dropping unread (meaningFrom z taken (take pending re) [] stream))
-restAt z pending (inReassembly at) seg re taken stream = envelopesIn 0 (part re at (pending - at)) taken (λ unread. meaningFrom z taken unread [] stream)
-restAt z pending (stopped number) seg re taken stream = refusedAfter number taken
-
-abbrev pub rest : Reader → List ℕ → List ℕ → ℕ → List ℕ → Meaning
-rest r seg re taken stream = restAt (lentOf r) (r .pending) (r .phase) seg re taken stream
-
--- a header that has passed still stands in the segment buffer, and says what the reader knows of it
-abbrev pub Agrees : Form → Phase → List ℕ → Type 0
-Agrees form (inHeader n) seg = Unit
-Agrees form (inRest n len self) seg = (headerLength form ≤ n) × (headerAt form (take n seg) ≡ whole (header len 0 self))
-Agrees form (inSegment len at) seg = Unit
-Agrees form (inReassembly at) seg = Unit
-Agrees form (stopped number) seg = Unit
 
 -- ---- what settling a reader in phase q says of all that is to come
 
 pub record Speaks (r : Reader) (q : Phase) (seg re : List ℕ) (x : Said) (r′ : Reader) (re′ : List ℕ) : Type 0 where
   pub lends : lentOf r′ ≡ lentOf r
   pub less : undelivered (r′ .pending) (r′ .phase) < undelivered (r .pending) q
+  pub small : saidLength x ≤ maxReassembly
   pub agrees : Agrees (r′ .form) (r′ .phase) seg
   pub same : Agrees (r .form) q seg → (taken : ℕ) (stream : List ℕ) → restAt (lentOf r) (r .pending) q seg re taken stream ≡ says x (rest r′ seg re′ taken stream)
 
@@ -90,9 +66,9 @@ module _ (r x : Reader) (q p : Phase) (seg re re₁ : List ℕ) (l : lentOf x �
     (s : Agrees (r .form) q seg → (taken : ℕ) (stream : List ℕ) → restAt (lentOf r) (r .pending) q seg re taken stream ≡ restAt (lentOf x) (x .pending) p seg re₁ taken stream) where
   pub before : (d : Due) (re′ : List ℕ) → Tells x p seg re₁ d re′ → Tells r q seg re d re′
   before (due (envelopeAt buffer at e) r′) re′ t =
-      record { lends = t .lends ∙ l; less = omega (arith, t .less); agrees = t .agrees; same = λ a taken stream. s a taken stream ∙ t .same (agrees a) taken stream }
+      record { lends = t .lends ∙ l; less = omega (arith, t .less); small = t .small; agrees = t .agrees; same = λ a taken stream. s a taken stream ∙ t .same (agrees a) taken stream }
   before (due (leftover n) r′) re′ t =
-      record { lends = t .lends ∙ l; less = omega (arith, t .less); agrees = t .agrees; same = λ a taken stream. s a taken stream ∙ t .same (agrees a) taken stream }
+      record { lends = t .lends ∙ l; less = omega (arith, t .less); small = t .small; agrees = t .agrees; same = λ a taken stream. s a taken stream ∙ t .same (agrees a) taken stream }
   before (due more r′) re′ t = t
   before (due (refused number) r′) re′ t = record { lends = t .lends ∙ l; stays = t .stays; same = λ a taken stream. s a taken stream ∙ t .same (agrees a) taken stream }
   before (waits r′) re′ t =
@@ -112,7 +88,7 @@ module _ (r : Reader) (seg re : List ℕ) where
 
   -- ---- envelopes of a self-contained payload
 
-  module _ (len at : ℕ) (room : segmentLength (r .form) len ≤ length seg) (h : at ≤ len) where
+  module _ (len at : ℕ) (room : segmentLength (r .form) len ≤ length seg) (h : at ≤ len) (wide : length seg ≤ maxReassembly) where
     abbrev unread : List ℕ
     unread = part seg (headerLength (r .form) + at) (len - at)
 
@@ -144,6 +120,7 @@ module _ (r : Reader) (seg re : List ℕ) where
         record {
           lends = refl;
           less = omega arith;
+          small = omega arith;
           agrees = tt;
           same = λ a taken stream. left-over false e k taken stream ∙ ap (says (leftoverOf (len - at))) (sym (begins z (r .pending) seg re taken stream));
         }
@@ -166,6 +143,7 @@ module _ (r : Reader) (seg re : List ℕ) where
         record {
           lends = refl;
           less = omega (arith, nine-or-more unread e);
+          small = subst (λ (k : ℕ). k ≤ maxReassembly) (sym (length-take-le n unread (omega arith)) ∙ ap length bytes) (omega arith);
           agrees = tt;
           same =
               λ a taken stream. first-whole taken _ unread v e
@@ -178,7 +156,7 @@ module _ (r : Reader) (seg re : List ℕ) where
 
   -- ---- envelopes of the pending bytes
 
-  module _ (at : ℕ) (within : r .pending ≤ length re) (h : at ≤ r .pending) where
+  module _ (at : ℕ) (within : r .pending ≤ length re) (h : at ≤ r .pending) (wide : length re ≤ maxReassembly) where
     abbrev unread-pending : List ℕ
     unread-pending = part re at (r .pending - at)
 
@@ -212,6 +190,7 @@ module _ (r : Reader) (seg re : List ℕ) where
         record {
           lends = refl;
           less = omega (arith, nine-or-more unread-pending e);
+          small = subst (λ (k : ℕ). k ≤ maxReassembly) (sym (length-take-le n unread-pending (omega arith)) ∙ ap length bytes) (omega arith);
           agrees = tt;
           same =
               λ a taken stream. first-whole taken _ unread-pending v e
@@ -268,7 +247,8 @@ module _ (r : Reader) (seg re : List ℕ) (n : ℕ) (q : r .phase ≡ inHeader n
 -- ---- a segment
 
 module _ (r : Reader) (seg re : List ℕ) (n len : ℕ) (self : Bool) (q : r .phase ≡ inRest n len self) (cap : length seg ≡ r .segment) (most : length re ≡ r .reassembly)
-    (within : r .pending ≤ length re) (room : segmentLength (r .form) len ≤ length seg) (here : n ≤ segmentLength (r .form) len) where
+    (within : r .pending ≤ length re) (room : segmentLength (r .form) len ≤ length seg) (here : n ≤ segmentLength (r .form) len)
+    (wide : length seg ≤ maxReassembly) (wide-re : length re ≤ maxReassembly) where
   abbrev s : List ℕ
   s = take n seg
 
@@ -306,7 +286,7 @@ module _ (r : Reader) (seg re : List ℕ) (n len : ℕ) (self : Bool) (q : r .ph
         → Tells r (inRest n len self) seg re (cond t (readSegment r seg len 0) (refusing 6 r)) re
     tells-alone own e o true k =
         before r r (inRest n len self) (inSegment len 0) seg re re refl (omega arith) (λ a. tt) (λ a taken stream. by-pending own e o a taken stream true k)
-        (readSegment r seg len 0) re (tells-segment r seg re len 0 room (omega arith))
+        (readSegment r seg len 0) re (tells-segment r seg re len 0 room (omega arith) wide)
     tells-alone own e o false k = record { lends = refl; stays = refl; same = λ a taken stream. by-pending own e o a taken stream false k }
 
     -- not: its payload joins the pending bytes
@@ -333,7 +313,7 @@ module _ (r : Reader) (seg re : List ℕ) (n len : ℕ) (self : Bool) (q : r .ph
           in
           before r grown-reader (inRest n len self) (inReassembly 0) seg re re₁ refl (omega (arith, payload-length)) (λ a. tt)
           (λ a taken stream. joined-by a taken stream true k ∙ ap (λ (u : List ℕ). envelopesIn 0 u taken (λ unread. goes-on taken stream unread [])) front)
-          (readPending grown-reader re₁ 0 .says) (readPending grown-reader re₁ 0 .reassembly) (tells-pending grown-reader seg re₁ 0 (omega arith) (omega arith))
+          (readPending grown-reader re₁ 0 .says) (readPending grown-reader re₁ 0 .reassembly) (tells-pending grown-reader seg re₁ 0 (omega arith) (omega arith) (omega arith))
       tells-joined false k = record { lends = refl; stays = refl; same = λ a taken stream. joined-by a taken stream false k }
 
     tells-received : (own : Bool) → payloadAt (r .form) s (header len 0 self) ≡ whole (segment own payload)
@@ -369,9 +349,9 @@ module _ (r : Reader) (seg re : List ℕ) (cap : length seg ≡ r .segment) (mos
   tells-at : (q : Phase) → r .phase ≡ q → Counts (r .form) (length seg) (r .pending) q → Tells r q seg re (settleAt r seg re q .says) (settleAt r seg re q .reassembly)
   unfolding settleAt
   tells-at (inHeader n) e k = tells-header r seg re n e cap (omega (arith, head-most (r .form), ok .least)) (headerAt (r .form) (take n seg)) refl
-  tells-at (inRest n len self) e k = tells-rest r seg re n len self e cap most (ok .held) (k .1) (k .2)
-  tells-at (inSegment len at) e k = tells-segment r seg re len at (k .1) (k .2)
-  tells-at (inReassembly at) e k = tells-pending r seg re at (ok .held) k
+  tells-at (inRest n len self) e k = tells-rest r seg re n len self e cap most (ok .held) (k .1) (k .2) (omega (arith, ok .most)) (ok .largest)
+  tells-at (inSegment len at) e k = tells-segment r seg re len at (k .1) (k .2) (omega (arith, ok .most))
+  tells-at (inReassembly at) e k = tells-pending r seg re at (ok .held) k (ok .largest)
   tells-at (stopped number) e k = record { lends = refl; stays = e; same = λ a taken stream. refl }
 
   pub settle-tells : Tells r (r .phase) seg re (settle r seg re .says) (settle r seg re .reassembly)

@@ -75,3 +75,18 @@ undelivered pending (inRest n len self) = n + pending
 undelivered pending (inSegment len at) = len - at + pending
 undelivered pending (inReassembly at) = pending - at
 undelivered pending (stopped number) = 0
+
+-- ---- what is left behind
+
+-- what the two buffers hold once a piece is used up
+pub data Leaves : Reader → List ℕ → List ℕ → List ℕ → List ℕ → List ℕ → Type 0 where
+  left-by-more : {r r′ : Reader} {segment segment′ reassembly reassembly′ piece : List ℕ} {n : ℕ}
+      → call r segment reassembly piece ≡ outcome more n r′ segment′ reassembly′ → Leaves r segment reassembly piece segment′ reassembly′
+  left-by-refusal : {r r′ : Reader} {segment segment′ reassembly reassembly′ piece : List ℕ} {n number : ℕ}
+      → call r segment reassembly piece ≡ outcome (refused number) n r′ segment′ reassembly′ → Leaves r segment reassembly piece segment′ reassembly′
+  left-after-envelope : {r r′ : Reader} {segment segment′ reassembly reassembly′ piece last-segment last-reassembly : List ℕ} {n : ℕ} {buffer : Buffer} {at : Place} {e : Envelope}
+      → call r segment reassembly piece ≡ outcome (envelopeAt buffer at e) n r′ segment′ reassembly′ → Leaves r′ segment′ reassembly′ (drop n piece) last-segment last-reassembly
+      → Leaves r segment reassembly piece last-segment last-reassembly
+  left-after-leftover : {r r′ : Reader} {segment segment′ reassembly reassembly′ piece last-segment last-reassembly : List ℕ} {n k : ℕ}
+      → call r segment reassembly piece ≡ outcome (leftover k) n r′ segment′ reassembly′ → Leaves r′ segment′ reassembly′ (drop n piece) last-segment last-reassembly
+      → Leaves r segment reassembly piece last-segment last-reassembly

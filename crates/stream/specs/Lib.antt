@@ -4,3 +4,5 @@ pub mod Segments
 pub mod Caller
 pub mod Legal
 pub mod Sent
+pub mod Collect
+pub mod Inside
