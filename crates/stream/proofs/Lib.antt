@@ -9,3 +9,5 @@ pub mod Segments
 pub mod Legal
 pub mod Sent
 pub mod Left
+pub mod Noting
+pub mod Turns

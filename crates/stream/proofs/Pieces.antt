@@ -1,10 +1,11 @@
 -- Demand 3, the first half: in whatever pieces a stream comes, a caller hears what the whole stream means; and each piece is soon used up. Assumes nothing.
 use Prim.Native.Nat.{ℕ, zero, suc, _+_, _≤_, _<_}
 use mathlib.Core.Path.{_≡_, refl, sym, ap, _∙_, subst}
-use mathlib.Core.Bool.{Bool, true, false}
+use mathlib.Core.Bool.{Bool, true, false, _&&_}
 use mathlib.Core.List.{List, [], _∷_, _++_}
 use native.Mathlib.Nat.{zero-add}
 use native.Mathlib.Omega.{arith}
+use lib.Dec.{leb, eqb}
 use lib.ListN.{length, take, drop}
 use lib.Seq.{length-take-le}
 use Rattle.basis.specs.Front.{Front, incomplete}
@@ -14,7 +15,7 @@ use Rattle.segment.specs.Header.{Form, header, headerLength}
 use Rattle.segment.specs.Segment.{Segment, segmentLength}
 use Rattle.segment.proofs.Cases.{payload-cut, payload-is}
 use Rattle.segment.proofs.HeaderLaid.{head-least, head-most}
-use Rattle.frame_decoder.specs.Reader.{Phase, inHeader, inRest, inSegment, inReassembly, stopped, Reader, fresh, bytesAt, Answer, envelopeAt, leftover, more, refused, minSegment, maxSegment, minReassembly, maxReassembly, between, admissible}
+use Rattle.frame_decoder.specs.Reader.{Phase, inHeader, inRest, inSegment, inReassembly, stopped, Reader, fresh, bytesAt, Answer, envelopeAt, leftover, more, refused, minSegment, maxSegment, minReassembly, maxReassembly, between, lentFits, countsFit, admissible}
 use Rattle.frame_decoder.specs.Call.{Outcome, outcome, call}
 use Rattle.frame_decoder.specs.Inside.{Counts, wanted}
 use Rattle.frame_decoder.proofs.Admits.{between-true}
@@ -45,7 +46,7 @@ module _ (r : Reader) (seg re : List ℕ) (t : Ready r seg re) (taken : ℕ) whe
   holds-at (inReassembly at) k a w = absurd (omega arith)
   holds-at (stopped number) k a w = absurd (omega arith)
 
-  holds-rest : Agrees (r .form) (r .phase) seg → 0 < wanted (r .form) (r .phase) → rest r seg re taken [] ≡ holds r seg re
+  pub holds-rest : Agrees (r .form) (r .phase) seg → 0 < wanted (r .form) (r .phase) → rest r seg re taken [] ≡ holds r seg re
   holds-rest = holds-at (r .phase) (t .ok .counts)
 
 -- ---- what is heard is what was to come
@@ -60,7 +61,7 @@ open-waiting r [] w = w
 open-waiting r (piece ∷ pieces) w = tt
 
 -- what a call told, where it is known what it answered
-told-by : {r x : Reader} {seg re piece seg′ re′ : List ℕ} {answer : Answer} {n : ℕ} → Ready r seg re → call r seg re piece ≡ outcome answer n x seg′ re′ → Called r seg re piece 0 (outcome answer n x seg′ re′)
+pub told-by : {r x : Reader} {seg re piece seg′ re′ : List ℕ} {answer : Answer} {n : ℕ} → Ready r seg re → call r seg re piece ≡ outcome answer n x seg′ re′ → Called r seg re piece 0 (outcome answer n x seg′ re′)
 told-by {r} {x} {seg} {re} {piece} t e = subst (Called r seg re piece 0) e (called r seg re piece t)
 
 pub heard-is : (r : Reader) (seg re : List ℕ) (taken : ℕ) (pieces : List (List ℕ)) {m : Meaning} → Hears r seg re taken pieces m → Ready r seg re → Agrees (r .form) (r .phase) seg → Open r pieces
@@ -144,7 +145,7 @@ hears (piece ∷ pieces) r seg re taken = hears-used pieces (hears pieces) (soon
 -- ---- a fresh reader
 
 module _ (f : Form) (seg re : List ℕ) (range : inRange (length seg) (length re) ≡ true) where
-  fresh-ready : Ready (fresh f (length seg) (length re)) seg re
+  pub fresh-ready : Ready (fresh f (length seg) (length re)) seg re
   unfolding inRange
   fresh-ready =
       let w = both-true (between minSegment maxSegment (length seg)) (between minReassembly maxReassembly (length re)) range in
@@ -158,7 +159,7 @@ module _ (f : Form) (seg re : List ℕ) (range : inRange (length seg) (length re
       }
 
   -- what is to come from it is what the stream means
-  fresh-rest : (stream : List ℕ) → rest (fresh f (length seg) (length re)) seg re 0 stream ≡ meaning (lent f (length seg) (length re)) stream
+  pub fresh-rest : (stream : List ℕ) → rest (fresh f (length seg) (length re)) seg re 0 stream ≡ meaning (lent f (length seg) (length re)) stream
   fresh-rest stream =
       ap (λ (x : Front Segment). judged (lent f (length seg) (length re)) x [] [] 0 (λ pending′ s′. meaningFrom (lent f (length seg) (length re)) 0 pending′ s′ stream)) (nothing-seen (lent f (length seg) (length re)))
 
@@ -172,3 +173,11 @@ module _ (f : Form) (seg re : List ℕ) (range : inRange (length seg) (length re
   pieces-are-heard pieces =
       let i = hears pieces (fresh f (length seg) (length re)) seg re 0 in
       subst (λ (m : Meaning). Hears (fresh f (length seg) (length re)) seg re 0 pieces m) (pieces-do-not-matter pieces (i .1)) (i .1)
+
+-- over lengths out of range it is refused with 1
+pub out-of-range : (f : Form) (seg re : List ℕ) → inRange (length seg) (length re) ≡ false → admissible (fresh f (length seg) (length re)) (length seg) (length re) ≡ false
+unfolding admissible lentFits inRange
+out-of-range f seg re e =
+    let a : ℕ = length seg in
+    let b : ℕ = length re in
+    ap (λ (t : Bool). (t && (eqb a a && eqb b b)) && (leb 0 b && countsFit f a 0 (inHeader 0))) e

@@ -1,13 +1,15 @@
 -- What a caller writes down of a stream: docs/RULES.md, 10.4. Assumes nothing.
-use Prim.Native.Nat.{ℕ, suc, _+_, _*_}
+use Prim.Native.Nat.{ℕ, _+_, _*_}
+use mathlib.Core.Path.{_≡_}
 use mathlib.Core.Bool.{Bool, true, false, cond, _&&_}
 use mathlib.Core.List.{List, []}
 use lib.Dec.{leb, ltb}
 use lib.ListN.{length, set}
 use Rattle.types.specs.Write.{put}
 use Rattle.segment.specs.Header.{Form}
+use Rattle.frame_decoder.specs.Reader.{fresh}
 use Rattle.stream.specs.Meaning.{lent, Said, envelopeOf, leftoverOf, Meaning, says, refusedAfter, holding, meaning}
-use Rattle.stream.specs.Caller.{inRange}
+use Rattle.stream.specs.Caller.{inRange, Leaves}
 
 -- ---- of one answer
 
@@ -41,15 +43,15 @@ tape answers bytes complete envelopes marks = record { answers = answers; bytes 
 abbrev pub blank : List ℕ → List ℕ → Tape
 blank envelopes marks = tape 0 0 true envelopes marks
 
--- n more bytes and a mark have room
-abbrev pub roomOn : Tape → ℕ → Bool
-roomOn t n = t .complete && (ltb (t .answers) (length (t .marks)) && leb (t .bytes + n) (length (t .envelopes)))
+-- n more bytes and a mark have room, in outputs of so many elements
+abbrev pub roomOn : ℕ → ℕ → Bool → ℕ → ℕ → ℕ → Bool
+roomOn answers bytes complete room marks n = complete && (ltb answers marks && leb (bytes + n) room)
 
 -- what has no room is not noted, and neither is what comes later
 unfoldable pub noted : List ℕ → ℕ → Tape → Tape
 noted bytes mark t =
-    cond (roomOn t (length bytes))
-    (tape (suc (t .answers)) (t .bytes + length bytes) true (put (t .envelopes) (t .bytes) bytes) (set (t .marks) (t .answers) mark))
+    cond (roomOn (t .answers) (t .bytes) (t .complete) (length (t .envelopes)) (length (t .marks)) (length bytes))
+    (tape (t .answers + 1) (t .bytes + length bytes) true (put (t .envelopes) (t .bytes) bytes) (set (t .marks) (t .answers) mark))
     (tape (t .answers) (t .bytes) false (t .envelopes) (t .marks))
 
 abbrev pub collected : Meaning → Tape → Tape
@@ -72,3 +74,9 @@ endOf (holding segment pending) = heldEnd (length segment) segment (length pendi
 -- 1 where a lent length is out of range
 unfoldable pub heardOf : Form → ℕ → ℕ → List ℕ → Meaning
 heardOf form segment reassembly stream = cond (inRange segment reassembly) (meaning (lent form segment reassembly) stream) (refusedAfter 1 0)
+
+-- what a caller wrote down of a stream given to a fresh reader, how it ended, and what it left in the two buffers
+pub record HeardAs (form : Form) (segment reassembly stream envelopes marks : List ℕ) (t : Tape) (end : Ending) (last-segment last-reassembly : List ℕ) : Type 0 where
+  pub tells : t ≡ collected (heardOf form (length segment) (length reassembly) stream) (blank envelopes marks)
+  pub ends : end ≡ endOf (heardOf form (length segment) (length reassembly) stream)
+  pub leaves : Leaves (fresh form (length segment) (length reassembly)) segment reassembly stream last-segment last-reassembly

@@ -10,6 +10,8 @@ use Rattle.segment.specs.Segment.{headerAt}
 use Rattle.frame_decoder.specs.Reader.{Phase, inHeader, inRest, inSegment, inReassembly, stopped, Reader, minReassembly}
 use Rattle.frame_decoder.specs.Inside.{Admitted, wanted}
 use Rattle.stream.specs.Meaning.{Lent, lent, Meaning, refusedAfter, segmentIn, envelopesIn, dropping, judged, meaningFrom}
+use Rattle.stream.specs.Caller.{Leaves, undelivered}
+use Rattle.stream.specs.Collect.{Tape, collected, Ending, endOf}
 
 abbrev pub lentOf : Reader → Lent
 lentOf r = lent (r .form) (r .segment) (r .reassembly)
@@ -48,3 +50,54 @@ pub record Ready (r : Reader) (seg re : List ℕ) : Type 0 where
   pub reassembly : length re ≡ r .reassembly
   pub least : minReassembly ≤ length re
   pub ok : Admitted r (length seg) (length re)
+
+-- ---- a caller on its way through a stream
+
+-- a reader and what its buffers hold, how many bytes were taken, and what was written down
+pub record Way : Type 0 where
+  pub reader : Reader
+  pub segment : List ℕ
+  pub reassembly : List ℕ
+  pub taken : ℕ
+  pub tape : Tape
+
+-- what it will hear
+abbrev pub toHear : List ℕ → Way → Meaning
+toHear stream w = rest (w .reader) (w .segment) (w .reassembly) (w .taken) (drop (w .taken) stream)
+
+-- what it will leave
+abbrev pub WillLeave : List ℕ → Way → List ℕ → List ℕ → Type 0
+WillLeave stream w = Leaves (w .reader) (w .segment) (w .reassembly) (drop (w .taken) stream)
+
+pub record Going (stream : List ℕ) (w : Way) : Type 0 where
+  pub ready : Ready (w .reader) (w .segment) (w .reassembly)
+  pub agrees : Agrees (w .reader .form) (w .reader .phase) (w .segment)
+  pub within : w .taken ≤ length stream
+
+-- further on, it will have heard, written down and left the same
+pub record Onward (stream : List ℕ) (w v : Way) : Type 0 where
+  pub tells : collected (toHear stream v) (v .tape) ≡ collected (toHear stream w) (w .tape)
+  pub ends : endOf (toHear stream v) ≡ endOf (toHear stream w)
+  pub leaves : (S R : List ℕ) → WillLeave stream v S R → WillLeave stream w S R
+
+-- it has come to its end with this written down, this end, and this in the buffers
+pub record Over (stream : List ℕ) (w : Way) (t : Tape) (e : Ending) (S R : List ℕ) : Type 0 where
+  pub tells : t ≡ collected (toHear stream w) (w .tape)
+  pub ends : e ≡ endOf (toHear stream w)
+  pub leaves : WillLeave stream w S R
+
+-- bytes are wanting
+abbrev pub Wants : Way → Type 0
+Wants w = 0 < wanted (w .reader .form) (w .reader .phase)
+
+-- at most so many answers come before the piece that ends there is used up
+abbrev pub leftTo : ℕ → Way → ℕ
+leftTo end w = undelivered (w .reader .pending) (w .reader .phase) + (end - w .taken)
+
+-- how many bytes of an unfinished segment are there
+abbrev pub filledOf : Phase → ℕ
+filledOf (inHeader n) = n
+filledOf (inRest n len self) = n
+filledOf (inSegment len at) = 0
+filledOf (inReassembly at) = 0
+filledOf (stopped number) = 0

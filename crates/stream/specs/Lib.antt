@@ -6,3 +6,5 @@ pub mod Legal
 pub mod Sent
 pub mod Collect
 pub mod Inside
+pub mod Paper
+pub mod Turn
