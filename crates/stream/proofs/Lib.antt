@@ -11,3 +11,4 @@ pub mod Sent
 pub mod Left
 pub mod Noting
 pub mod Turns
+pub mod Demand3
