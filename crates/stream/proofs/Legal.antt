@@ -128,6 +128,18 @@ all-said {s} {said} w taken goes-on =
     let q : said ≡ i .first = i .both ∙ ap (λ (k : List Said). i .first ++ k) (d .1) ∙ append-nil (i .first) in
     i .tells taken goes-on ∙ ap₂ (λ (k : List Said) (u : List ℕ). saying k (goes-on u)) (sym q) (d .0)
 
+-- whole envelopes before bytes of which none is whole
+pub said-then : {s : List ℕ} {said : List Said} → Envelopes s said → (u : List ℕ) → envelope u ≡ incomplete → (taken : ℕ) (goes-on : List ℕ → Meaning)
+    → envelopesIn 0 (s ++ u) taken goes-on ≡ saying said (goes-on u)
+said-then no-envelope u short taken goes-on = none-whole taken goes-on u short
+said-then (one-envelope {bytes = e} {others = s} {v = v} {said = said} r l on) u short taken goes-on =
+    let a : (e ++ s) ++ u ≡ e ++ (s ++ u) = append-assoc e s u in
+    ap (λ (x : List ℕ). envelopesIn 0 x taken goes-on) a
+    ∙ first-whole taken goes-on (e ++ (s ++ u)) v (whole-behind e (s ++ u) v r)
+    ∙ ap (λ (n : ℕ). says (envelopeOf (take n (e ++ (s ++ u))) v) (envelopesIn 0 (drop n (e ++ (s ++ u))) taken goes-on)) l
+    ∙ ap₂ (λ (b x : List ℕ). says (envelopeOf b v) (envelopesIn 0 x taken goes-on)) (take-append-seam e (s ++ u)) (drop-append-seam e (s ++ u))
+    ∙ ap (says (envelopeOf e v)) (said-then on u short taken goes-on)
+
 -- ---- a segment in front of the stream
 
 -- its header, and what stands behind it

@@ -12,3 +12,4 @@ pub mod Left
 pub mod Noting
 pub mod Turns
 pub mod Demand3
+pub mod Shut

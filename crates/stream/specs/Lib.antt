@@ -8,3 +8,4 @@ pub mod Collect
 pub mod Inside
 pub mod Paper
 pub mod Turn
+pub mod Shut

@@ -1,0 +1,66 @@
+-- Readers that the promise of a call shuts out, by name. Assumes nothing.
+use Prim.Native.Nat.{ℕ}
+use mathlib.Core.Path.{_≡_}
+use mathlib.Core.Bool.{true, false}
+use mathlib.Core.List.{List, [], _∷_}
+use lib.IntN.{pos, negsuc}
+use lib.ListN.{drop}
+use Rattle.types.specs.Read.{Place, place, strings}
+use Rattle.frame.specs.Envelope.{Envelope}
+use Rattle.frame_decoder.specs.Reader.{Reader, Buffer, envelopeAt, more, refused}
+use Rattle.frame_decoder.specs.Call.{Outcome, call}
+
+-- a reader, as what its calls come to; and one that keeps the promise
+abbrev pub Reads : Type 0
+Reads = Reader → List ℕ → List ℕ → List ℕ → Outcome
+
+abbrev pub Keeps : Reads → Type 0
+Keeps R = (r : Reader) (segment reassembly piece : List ℕ) → R r segment reassembly piece ≡ call r segment reassembly piece
+
+-- ---- wrong ones
+
+abbrev pub RefusesEverything : Reads → Type 0
+RefusesEverything R = (r : Reader) (segment reassembly piece : List ℕ) → (number : ℕ) × (R r segment reassembly piece .answer ≡ refused number)
+
+abbrev pub NamesOneEnvelope : Reads → Type 0
+NamesOneEnvelope R = (e : Envelope) × ((r : Reader) (segment reassembly piece : List ℕ) → (buffer : Buffer) × (at : Place) × (R r segment reassembly piece .answer ≡ envelopeAt buffer at e))
+
+abbrev pub AsksForever : Reads → Type 0
+AsksForever R = (r : Reader) (segment reassembly piece : List ℕ) → R r segment reassembly piece .answer ≡ more
+
+-- what its next call answers with the rest of the piece
+abbrev pub next : Reads → Reader → List ℕ → List ℕ → List ℕ → Outcome
+next R r segment reassembly piece =
+    let o : Outcome = R r segment reassembly piece in
+    R (o .reader) (o .segment) (o .reassembly) (drop (o .taken) piece)
+
+abbrev pub OnlyNods : Reads → Type 0
+OnlyNods R = (r : Reader) (segment reassembly piece : List ℕ) → next R r segment reassembly piece .answer ≡ more
+
+-- ---- what they are caught with: docs/RULES.md, section 13, P5 and P6
+
+abbrev pub P5 : List ℕ
+P5 = 0x05 ∷ 0x00 ∷ 0x00 ∷ 0x01 ∷ 0x05 ∷ 0x00 ∷ 0x00 ∷ 0x00 ∷ 0x00 ∷ []
+
+abbrev pub readingOfP5 : Envelope
+readingOfP5 =
+    record {
+      size = 9;
+      header = record { version = 5; response = false; flags = 0; stream = pos 1; opcode = 0x05 };
+      traced = false;
+      warnings = strings 0 9;
+      body = place 9 0;
+    }
+
+abbrev pub P6 : List ℕ
+P6 = 0x85 ∷ 0x00 ∷ 0xff ∷ 0xff ∷ 0x0c ∷ 0x00 ∷ 0x00 ∷ 0x00 ∷ 0x00 ∷ []
+
+abbrev pub readingOfP6 : Envelope
+readingOfP6 =
+    record {
+      size = 9;
+      header = record { version = 5; response = true; flags = 0; stream = negsuc 0; opcode = 0x0c };
+      traced = false;
+      warnings = strings 0 9;
+      body = place 9 0;
+    }
