@@ -4,7 +4,7 @@ ghost use mathlib.Core.Bool.{true, _&&_};
 ghost use lib.Dec.{leb};
 ghost use Rattle.segment.specs.Segment.{segmentLength};
 ghost use Rattle.segment.specs.Paper.{paperForm};
-ghost use Rattle.frame_decoder.specs.Reader.{between, lentFits, payloadFits, countsFit, admissible, heldIn, inRest};
+ghost use Rattle.frame_decoder.specs.Reader.{payloadFits, countsFit, admissible, heldIn, inRest};
 ghost use Rattle.frame_decoder.specs.Paper.{paperPhase, paperReader};
 use crate::MAX_REASSEMBLY_LEN;
 use crate::MAX_SEGMENT_LEN;
@@ -18,34 +18,12 @@ use segment::TRAILER_LEN;
 use segment::header_len;
 use types::inner;
 
-fn both(x: bool, y: bool) -> bool
-    ensures { λ r. ⌜ r ≡ (x && y) ⌝ }
-{
-    if x { y } else { false }
-}
-
-fn is_between(least: usize, most: usize, n: usize) -> bool
-    ensures { λ r. ⌜ r ≡ between least most n ⌝ }
-{
-    both(least <= n, n <= most)
-}
-
-fn lent_fits(m: Reader, a: usize, b: usize) -> bool
-    ensures { λ r. ⌜ r ≡ lentFits (paperReader m) a b ⌝ }
-{
-    let first = is_between(MIN_SEGMENT_LEN, MAX_SEGMENT_LEN, a);
-    let second = is_between(MIN_REASSEMBLY_LEN, MAX_REASSEMBLY_LEN, b);
-    let in_range = both(first, second);
-    let as_before = both(a == m.segment_len, b == m.reassembly_len);
-    both(in_range, as_before)
-}
-
 fn payload_fits(form: Form, room: usize, len: usize) -> bool
     ensures { λ r. ⌜ r ≡ payloadFits (paperForm form) room len ⌝ }
 {
     let around = header_len(form) + TRAILER_LEN;
     let within = inner::room(room, around, len);
-    both(len <= MAX_PAYLOAD, within)
+    (len <= MAX_PAYLOAD) & within
 }
 
 fn rest_fits(form: Form, room: usize, filled: usize, len: usize) -> bool
@@ -68,7 +46,7 @@ fn counts_fit(form: Form, room: usize, pending: usize, phase: Phase) -> bool
             len,
             self_contained: _,
         } => rest_fits(form, room, filled, len),
-        Phase::InSegment { len, at } => both(payload_fits(form, room, len), at <= len),
+        Phase::InSegment { len, at } => payload_fits(form, room, len) & (at <= len),
         Phase::InReassembly { at } => at <= pending,
         Phase::Stopped(_) => true,
     }
@@ -81,10 +59,12 @@ pub(crate) fn is_admissible(m: Reader, a: usize, b: usize) -> bool
     let form = m.form;
     let pending = m.pending;
     let phase = m.phase;
-    let lent = lent_fits(m, a, b);
     let counts = counts_fit(form, a, pending, phase);
-    let inside = both(pending <= b, counts);
-    both(lent, inside)
+    let first = (MIN_SEGMENT_LEN <= a) & (a <= MAX_SEGMENT_LEN);
+    let second = (MIN_REASSEMBLY_LEN <= b) & (b <= MAX_REASSEMBLY_LEN);
+    let as_before = (a == m.segment_len) & (b == m.reassembly_len);
+    let lent = (first & second) & as_before;
+    lent & ((pending <= b) & counts)
 }
 
 pub(crate) fn held_in(m: Reader) -> usize

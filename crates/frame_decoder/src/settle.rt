@@ -12,7 +12,7 @@ ghost use Rattle.segment.specs.Header.{headerLength, header as fieldsAre};
 ghost use Rattle.segment.specs.Segment.{trailerLength, segmentLength, headerAt, payloadAt};
 ghost use Rattle.segment.specs.Paper.{paperForm, paperHeader};
 ghost use Rattle.frame_decoder.specs.Reader.{keeping, inPhase};
-ghost use Rattle.frame_decoder.specs.Settle.{settled, refusing, headerDue, leftoverDue, readSegment, movedDown, readPending, readAlone, readJoined, segmentDue, settle};
+ghost use Rattle.frame_decoder.specs.Settle.{settled, refusing, headerDue, leftoverDue, readSegment, movedDown, readPending, readJoined, segmentDue, settle};
 ghost use Rattle.frame_decoder.specs.Paper.{paperPhase, paperReader};
 ghost use Rattle.frame_decoder.specs.Inside.{paperDue, Admitted};
 use crate::Answer;
@@ -189,19 +189,7 @@ fn payload_holds(segment: &[u8], start: usize, len: usize) -> bool
     read == computed as u64
 }
 
-// A self-contained segment: 6.
-fn alone(m: Reader, segment: &[u8], len: usize) -> Due
-    requires { ⌜ headerLength (paperForm (m .form)) + len ≤ length (now segment) ⌝ }
-    ensures { λ r. ⌜ paperDue r ≡ readAlone (paperReader m) (now (segment .entry)) len ⌝ }
-{
-    let pending = m.pending;
-    if pending == 0 {
-        return from_segment(m, segment, len, 0);
-    }
-    refuse(m, Refusal::UnexpectedSelfContained)
-}
-
-// A segment that is not: 7, or its payload is appended, into the free tail of the reassembly buffer.
+// A segment that is not self-contained: 7, or its payload is appended, into the free tail of the reassembly buffer.
 fn append(m: Reader, payload: &[u8], reassembly: &mut [u8]) -> Due
     requires { ⌜ m .pending ≤ length (now reassembly) ⌝ }
     ensures { λ r. ⌜ settled (paperDue r) (now (reassembly .exit)) ≡ readJoined (paperReader m) (now (reassembly .entry)) (now (payload .entry)) ⌝ }
@@ -236,7 +224,11 @@ fn segment_due(
     }
     if payload_holds(segment, start, len) {
         if self_contained {
-            return alone(m, segment, len);
+            let pending = m.pending;
+            if pending == 0 {
+                return from_segment(m, segment, len, 0);
+            }
+            return refuse(m, Refusal::UnexpectedSelfContained);
         }
         return append(m, &segment[start..end], reassembly);
     }

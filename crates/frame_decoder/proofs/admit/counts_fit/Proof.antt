@@ -22,7 +22,6 @@ counts-fit-spec =
     (λ c κs. search needs)
     (λ c. search needs)
     (λ c κs. search needs)
-    (λ c κs. search needs)
     (λ c. search needs)
     (λ c. search needs)
     (λ c.
@@ -32,8 +31,8 @@ counts-fit-spec =
     let a = c .before .before .before .before .args in
     c .rest-fits .ensures ∙ sym (ap (λ (q : Phase). countsFit (paperForm (a .form)) (a .room) (a .pending) (paperPhase q)) (c .before .before .phase2 .given .1)))
     (λ c.
-    let a = c .before .before .before .before .before .args in
-    c .both .ensures ∙ ap (λ (t : Bool). t && leb (c .before .before .before .phase3 .given .0 .1 .0) (c .before .before .before .phase3 .given .0 .0)) (c .before .payload-fits .ensures) ∙ sym (ap (λ (q : Phase). countsFit (paperForm (a .form)) (a .room) (a .pending) (paperPhase q)) (c .before .before .before .phase3 .given .1)))
+    let a = c .before .before .before .before .args in
+    ap (λ (t : Bool). t && leb (c .before .before .phase3 .given .0 .1 .0) (c .before .before .phase3 .given .0 .0)) (c .payload-fits .ensures) ∙ sym (ap (λ (q : Phase). countsFit (paperForm (a .form)) (a .room) (a .pending) (paperPhase q)) (c .before .before .phase3 .given .1)))
     (λ c.
     let a = c .before .before .before .args in
     sym (ap (λ (q : Phase). countsFit (paperForm (a .form)) (a .room) (a .pending) (paperPhase q)) (c .before .phase4 .given .1)))

@@ -20,8 +20,7 @@ payload-fits-spec =
     (λ c κs. search needs)
     (λ c. record { fits = omega (arith, c .header-len .ensures, head-most (paperForm (c .before .args .form))) })
     (λ c κs. search needs)
-    (λ c κs. search needs)
     (λ c.
-    let a = c .before .before .before .args in
-    let e : c .before .before .header-len .result + 4 + a .len ≡ headerLength (paperForm (a .form)) + a .len + 4 = omega (arith, c .before .before .header-len .ensures) in
-    c .both .ensures ∙ ap (λ (t : Bool). leb (a .len) 131071 && t) (c .before .room .ensures .0 ∙ ap (λ (k : ℕ). leb k (a .room)) e)))
+    let a = c .before .before .args in
+    let e : c .before .header-len .result + 4 + a .len ≡ headerLength (paperForm (a .form)) + a .len + 4 = omega (arith, c .before .header-len .ensures) in
+    ap (λ (t : Bool). leb (a .len) 131071 && t) (c .room .ensures .0 ∙ ap (λ (k : ℕ). leb k (a .room)) e)))
