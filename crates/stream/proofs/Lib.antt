@@ -13,3 +13,5 @@ pub mod Noting
 pub mod Turns
 pub mod Demand3
 pub mod Shut
+pub mod WrittenDown
+pub mod Determined

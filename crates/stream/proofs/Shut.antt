@@ -175,10 +175,12 @@ module _ (R : Reads) (keeps : Keeps R) where
   second-answer : (buffer : Buffer) × (at : Place) × (next R r₀ seg₀ re₀ line₀ .answer ≡ envelopeAt buffer at readingOfP6)
   second-answer =
       let i = first₀ in
-      let j = names (i .hears) P6 readingOfP6 (exactly []) refl in
-      (j .buffer, j .at,
-      ap (λ (o : Outcome). R (o .reader) (o .segment) (o .reassembly) (drop (o .taken) line₀) .answer) (keeps r₀ seg₀ re₀ line₀ ∙ i .answers)
-      ∙ ap (λ (o : Outcome). o .answer) (keeps (i .r′) (i .seg′) (i .re′) (drop (i .n) line₀) ∙ j .answers))
+      let j = names (i .hears) P6 readingOfP6 (exactly []) refl in (
+        j .buffer,
+        j .at,
+        ap (λ (o : Outcome). R (o .reader) (o .segment) (o .reassembly) (drop (o .taken) line₀) .answer) (keeps r₀ seg₀ re₀ line₀ ∙ i .answers)
+            ∙ ap (λ (o : Outcome). o .answer) (keeps (i .r′) (i .seg′) (i .re′) (drop (i .n) line₀) ∙ j .answers),
+      )
 
   pub not-refusing-everything : RefusesEverything R → ⊥
   unfolding answerTag
