@@ -2,7 +2,7 @@
 use Prim.Native.Nat.{ℕ, _+_, _-_, _≤_}
 use mathlib.Core.Path.{_≡_, refl, sym, ap, ap₂, _∙_, subst}
 use mathlib.Core.Bool.{Bool, true, cond}
-use mathlib.Core.List.{List, []}
+use mathlib.Core.List.{List, [], _∷_}
 use native.Mathlib.Omega.{arith}
 use lib.ListN.{length, take}
 use lib.Seq.{length-take-le}
@@ -13,10 +13,11 @@ use Rattle.segment.specs.Segment.{segmentLength, maxPayload}
 use Rattle.segment.proofs.HeaderLaid.{head-most}
 use Rattle.frame_decoder.specs.Reader.{Phase, inHeader, inRest, inSegment, inReassembly, stopped, Reader, fresh, heldIn, held, admissible}
 use Rattle.frame_decoder.specs.Inside.{Counts}
-use Rattle.stream.specs.Meaning.{lent, Said, Meaning, meaning}
+use Rattle.stream.specs.Meaning.{lent, Said, Meaning, refusedAfter, meaning}
 use Rattle.stream.specs.Caller.{inRange, segmentHeld, pendingHeld, Hears}
 use Rattle.stream.specs.Legal.{Legal, exactly, Suffices}
 use Rattle.stream.specs.Sent.{Given, Sends, PiecesFit, AllBack}
+use Rattle.stream.specs.Collect.{Tape, blank, collected, Ending, heldEnd, endOf, heardOf, HeardAs}
 use Rattle.stream.specs.Inside.{Ready}
 use Rattle.stream.proofs.Calls.{ready-admissible}
 use Rattle.stream.proofs.Pieces.{pieces-do-not-matter, pieces-are-heard}
@@ -55,6 +56,21 @@ cuts-agree f seg seg′ re re′ pieces pieces′ range a b same h h′ =
     ∙ sym (ap₂ (λ (i j : ℕ). meaning (lent f i j) (joined pieces)) a b)
     ∙ sym (ap (meaning (lent f (length seg′) (length re′))) same)
     ∙ sym (demand-3 f seg′ re′ (ap₂ inRange a b ∙ range) pieces′ h′ .0)
+
+-- The same of the caller in code: of a legal stream, the sizes sufficing, `collect` writes down exactly its envelopes, as far as there is room, and nothing is held.
+pub collected-legal : (f : Form) (seg re stream envelopes marks : List ℕ) {t : Tape} {end : Ending} {S R : List ℕ} → HeardAs f seg re stream envelopes marks t end S R → inRange (length seg) (length re) ≡ true
+    → (said : List Said) → Legal f stream said → Suffices (meaning (lent f (length seg) (length re)) stream) → (t ≡ collected (exactly said) (blank envelopes marks)) × (end ≡ heldEnd 0 [] 0 [])
+unfolding heardOf
+collected-legal f seg re stream envelopes marks h range said legal suffices =
+    let z = lent f (length seg) (length re) in
+    let same : heardOf f (length seg) (length re) stream ≡ exactly said =
+    ap (λ (b : Bool). cond b (meaning z stream) (refusedAfter 1 0)) range ∙ legal-means z legal 0 suffices
+    in
+    (h .tells ∙ ap (λ (m : Meaning). collected m (blank envelopes marks)) same, h .ends ∙ ap endOf same ∙ ends said)
+  where
+    ends : (xs : List Said) → endOf (exactly xs) ≡ heldEnd 0 [] 0 []
+    ends [] = refl
+    ends (x ∷ xs) = ends xs
 
 -- The bytes held are as many as `Reader::held` says.
 pub held-bytes : (r : Reader) (seg re : List ℕ) → Ready r seg re → length (segmentHeld (r .phase) seg) + length (pendingHeld (r .pending) (r .phase) re) ≡ held r
