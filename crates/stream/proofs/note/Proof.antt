@@ -21,7 +21,7 @@ note-spec =
     (λ c κs. search needs)
     (λ c. search needs)
     (λ c. search needs)
-    (λ c κs. c .before .before .room .ensures .1 (c .before .if3 .taken))
+    (λ c κs. omega (arith, c .before .before .room .ensures .1 (c .before .if3 .taken)))
     (λ c. search needs)
     (λ c. record { fits = omega (arith, c .before .before .before .before .before .room .ensures .1 (c .before .before .before .before .if3 .taken), c .before .before .before .before .before .before .before .before .before .before .before .good .1 .0 .0) })
     (λ c. search needs)
