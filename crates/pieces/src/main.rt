@@ -17,25 +17,25 @@ struct Case {
     marks: usize,
 }
 
-enum Lengths {
+enum Opened {
     Is(Case),
     Missing,
 }
 
-fn sized(form: Form, line: &[u8]) -> Lengths {
-    let Number::Value(segment) = words::number_at(line, 1) else {
-        return Lengths::Missing;
+// What is no number is more than there is of anything.
+fn size(line: &[u8], k: usize) -> usize {
+    let Number::Value(n) = words::number_at(line, k) else {
+        return usize::MAX;
     };
-    let Number::Value(reassembly) = words::number_at(line, 2) else {
-        return Lengths::Missing;
-    };
-    let Number::Value(envelopes) = words::number_at(line, 3) else {
-        return Lengths::Missing;
-    };
-    let Number::Value(marks) = words::number_at(line, 4) else {
-        return Lengths::Missing;
-    };
-    Lengths::Is(Case {
+    n
+}
+
+fn sized(form: Form, line: &[u8]) -> Opened {
+    let segment = size(line, 1);
+    let reassembly = size(line, 2);
+    let envelopes = size(line, 3);
+    let marks = size(line, 4);
+    Opened::Is(Case {
         form,
         segment,
         reassembly,
@@ -44,20 +44,11 @@ fn sized(form: Form, line: &[u8]) -> Lengths {
     })
 }
 
-fn opened(line: &[u8]) -> Lengths {
+fn open(line: &[u8]) -> Opened {
     match words::index(b"short long", words::field(line, b' ', 0)) {
         0 => sized(Form::Short, line),
         1 => sized(Form::Long, line),
-        _ => Lengths::Missing,
-    }
-}
-
-// No mark is 1, so every change shows.
-fn fill_marks(marks: &mut [usize]) {
-    let mut i: usize = 0;
-    while i < marks.len() {
-        marks[i] = 1;
-        i += 1;
+        _ => Opened::Missing,
     }
 }
 
@@ -71,10 +62,6 @@ fn give(
     envelopes: &mut [u8],
     marks: &mut [usize],
 ) {
-    cases::fill(segment);
-    cases::fill(reassembly);
-    cases::fill(envelopes);
-    fill_marks(marks);
     let all = collect(form, segment, reassembly, stream, cuts, envelopes, marks);
     outcome::all(all, segment, reassembly, envelopes, marks);
 }
@@ -118,17 +105,44 @@ fn give_lent(
     true
 }
 
+// One byte more than the ranges of both buffers have, so that their ends can be passed. As answers of functions the arrays stay opaque to a proof.
+fn segment_room() -> [u8; 131_084] {
+    [0xee; 131_084]
+}
+
+fn reassembly_room() -> [u8; 1_048_577] {
+    [0xee; 1_048_577]
+}
+
+fn envelopes_room() -> [u8; 131_200] {
+    [0xee; 131_200]
+}
+
+// No mark is 1.
+fn marks_room() -> [usize; 256] {
+    [1; 256]
+}
+
+// Buffers and outputs are fresh, and filled so that every change shows.
+fn give_fresh(case: Case, stream: &[u8], cuts: &[usize]) -> bool {
+    let mut segment = segment_room();
+    let mut reassembly = reassembly_room();
+    let mut envelopes = envelopes_room();
+    let mut marks = marks_room();
+    give_lent(
+        case,
+        stream,
+        cuts,
+        &mut segment,
+        &mut reassembly,
+        &mut envelopes,
+        &mut marks,
+    )
+}
+
 // Whether the line was a case. The items serve on the way to the bytes, and then hold the cuts.
-fn answer(
-    line: &[u8],
-    items: &mut [usize],
-    bytes: &mut [u8],
-    segment: &mut [u8],
-    reassembly: &mut [u8],
-    envelopes: &mut [u8],
-    marks: &mut [usize],
-) -> bool {
-    let Lengths::Is(case) = opened(line) else {
+fn answer(line: &[u8], items: &mut [usize], bytes: &mut [u8]) -> bool {
+    let Opened::Is(case) = open(line) else {
         return false;
     };
     let Number::Value(n) = words::bytes_at(line, 6, items, bytes) else {
@@ -137,60 +151,23 @@ fn answer(
     let Number::Value(k) = words::lengths_at(line, 5, items) else {
         return false;
     };
-    give_lent(
-        case,
-        words::front(bytes, n),
-        words::front_items(items, k),
-        segment,
-        reassembly,
-        envelopes,
-        marks,
-    )
+    give_fresh(case, words::front(bytes, n), words::front_items(items, k))
 }
 
-fn answer_all(
-    input: &[u8],
-    items: &mut [usize],
-    bytes: &mut [u8],
-    segment: &mut [u8],
-    reassembly: &mut [u8],
-    envelopes: &mut [u8],
-    marks: &mut [usize],
-) {
+fn answer_all(input: &[u8], items: &mut [usize], bytes: &mut [u8]) {
     let mut start: usize = 0;
     while start < input.len() {
         let line = words::line(input, start);
-        say::end_line(answer(line, items, bytes, segment, reassembly, envelopes, marks));
+        say::end_line(answer(line, items, bytes));
         start += line.len() + 1;
     }
 }
 
-// One byte more than each range has, so that its end can be passed. As answers of functions the arrays stay opaque to a proof.
-fn segment_room() -> [u8; 131_084] {
-    [0u8; 131_084]
-}
-
-fn reassembly_room() -> [u8; 1_048_577] {
-    [0u8; 1_048_577]
-}
-
-// The longest input, the most bytes or cuts that a word may stand for, the two buffers and the two outputs.
+// The longest input, and the most bytes or cuts that a word may stand for.
 fn main() {
     let mut input = [0u8; 393_216];
     let mut items = [0usize; 131_200];
     let mut bytes = [0u8; 131_200];
-    let mut segment = segment_room();
-    let mut reassembly = reassembly_room();
-    let mut envelopes = [0u8; 131_200];
-    let mut marks = [0usize; 256];
     let n = io::read_full(STDIN_FILENO, &mut input);
-    answer_all(
-        &input[..n],
-        &mut items,
-        &mut bytes,
-        &mut segment,
-        &mut reassembly,
-        &mut envelopes,
-        &mut marks,
-    );
+    answer_all(&input[..n], &mut items, &mut bytes);
 }

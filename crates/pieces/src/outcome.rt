@@ -3,6 +3,7 @@ use cases::say;
 use cases::words;
 use crc::Running32;
 use libc::STDOUT_FILENO;
+use refusal::Refusal;
 use stream::Collected;
 use stream::End;
 use stream::Notes;
@@ -32,12 +33,14 @@ fn say_held(before: &[u8], n: usize, buffer: &[u8]) {
     say::spelt(b" ", words::front(buffer, n));
 }
 
+fn say_refused(why: Refusal, taken: usize) {
+    say::refused(b" refused ", why);
+    say::number(b" after ", taken);
+}
+
 fn say_end<'a>(end: End, segment: &'a [u8], reassembly: &'a [u8]) {
     match end {
-        End::Refused(why, taken) => {
-            say::refused(b" refused ", why);
-            say::number(b" after ", taken);
-        }
+        End::Refused(why, taken) => say_refused(why, taken),
         End::Held(filled, pending) => {
             say_held(b" held ", filled, segment);
             say_held(b" and ", pending, reassembly);
@@ -45,7 +48,14 @@ fn say_end<'a>(end: End, segment: &'a [u8], reassembly: &'a [u8]) {
     }
 }
 
-// The outputs whole, and one check over both buffers.
+// One check over both buffers.
+fn say_check<'a>(segment: &'a [u8], reassembly: &'a [u8]) {
+    let check = Running32::start().more(segment).more(reassembly);
+    say::text(b" check ");
+    io::print_hex(STDOUT_FILENO, check.finish() as u64, 8);
+}
+
+// The outputs are written whole.
 pub fn all<'a>(
     all: Collected,
     segment: &'a [u8],
@@ -59,7 +69,5 @@ pub fn all<'a>(
     say::spelt(b" envelopes ", envelopes);
     say_marks(marks);
     say_end(end, segment, reassembly);
-    let check = Running32::start().more(segment).more(reassembly);
-    say::text(b" check ");
-    io::print_hex(STDOUT_FILENO, check.finish() as u64, 8);
+    say_check(segment, reassembly);
 }

@@ -8,13 +8,10 @@ use Rattle.pieces.proofs.answer_all.Statement.{statement}
 use Rattle.pieces.proofs.answer_all.Tie as tie
 
 abbrev Inv-loop : tie.InvT-loop
-Inv-loop input items₀ bytes₀ segment₀ reassembly₀ envelopes₀ marks₀ start₀ items bytes segment reassembly envelopes marks start =
-    (length items ≡ length items₀) × (length bytes ≡ length bytes₀) × (length segment ≡ length segment₀) ×
-    (length reassembly ≡ length reassembly₀) × (length envelopes ≡ length envelopes₀) × (length marks ≡ length marks₀)
+Inv-loop input items₀ bytes₀ start₀ items bytes start = (length items ≡ length items₀) × (length bytes ≡ length bytes₀)
 
 abbrev μ-loop : tie.MeasureT-loop
-μ-loop input items₀ bytes₀ segment₀ reassembly₀ envelopes₀ marks₀ start₀ items bytes segment reassembly envelopes marks start =
-    length input - start
+μ-loop input items₀ bytes₀ start₀ items bytes start = length input - start
 
 pub answer-all-spec : {M : Type 1} → statement M
 answer-all-spec =
@@ -29,10 +26,6 @@ answer-all-spec =
     (λ c. omega arith)
     (λ c. omega arith)
     (λ c. omega arith)
-    (λ c. search needs)
-    (λ c. search needs)
-    (λ c. search needs)
-    (λ c. search needs)
     (λ c. search needs)
     (λ c. search needs)
     (λ c. search needs)
