@@ -57,7 +57,10 @@ class Meaning:
         payload = whole[first - start :][:length]
         if whole[-TRAILER:] != trailer(payload):
             raise Refused(PAYLOAD_CHECK)
-        self.read_alone(payload) if contained else self.read_joined(payload)
+        if contained:
+            self.read_alone(payload)
+        else:
+            self.read_joined(payload)
         return end
 
     # 6.8
