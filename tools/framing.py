@@ -42,8 +42,8 @@ def number_of(form, length, contained, before_compression=0):
     return length | before_compression << 17 | contained << CONTAINED[form]
 
 
-def header(form, length, contained):
-    return checked(form, number_of(form, length, contained))
+def header(form, length, contained, before_compression=0, unused=0):
+    return checked(form, number_of(form, length, contained, before_compression) | unused << CONTAINED[form] + 1)
 
 
 def header_length(form):
