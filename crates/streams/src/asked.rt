@@ -10,9 +10,22 @@ pub struct Asked {
     pub second: usize,
 }
 
+// The most lengths that a word may stand for. The items have room for more: they serve for bytes too.
+const MOST_LENGTHS: usize = 2_048;
+
+fn lengths(part: &[u8], items: &mut [usize]) -> Number {
+    let Number::Value(n) = words::lengths_at(part, 1, items) else {
+        return Number::Missing;
+    };
+    if MOST_LENGTHS < n {
+        return Number::Missing;
+    }
+    Number::Value(n)
+}
+
 fn first(part: &[u8], name: usize, items: &mut [usize]) -> Number {
     if name == 0 {
-        return words::lengths_at(part, 1, items);
+        return lengths(part, items);
     }
     words::number_at(part, 1)
 }

@@ -125,8 +125,7 @@ fn answer_all(
     }
 }
 
-// The longest input, and the most bytes or lengths that a word may stand for. As answers of functions the arrays stay opaque to a
-// proof.
+// The longest input, and the most bytes that a word may stand for. As answers of functions the arrays stay opaque to a proof.
 fn input_room() -> [u8; 393_216] {
     [0u8; 393_216]
 }
