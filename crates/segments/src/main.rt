@@ -131,12 +131,29 @@ fn answer_all(input: &[u8], items: &mut [usize], bytes: &mut [u8], out: &mut [u8
     }
 }
 
-// The longest input; an envelope for three pieces; and the longest segment, with some bytes more.
+// The longest input; an envelope for three pieces; and the longest segment, with some bytes more. As answers of functions the
+// arrays stay opaque to a proof.
+fn input_room() -> [u8; 393_216] {
+    [0u8; 393_216]
+}
+
+fn items_room() -> [usize; 262_200] {
+    [0usize; 262_200]
+}
+
+fn bytes_room() -> [u8; 262_200] {
+    [0u8; 262_200]
+}
+
+fn out_room() -> [u8; 131_200] {
+    [0u8; 131_200]
+}
+
 fn main() {
-    let mut input = [0u8; 393_216];
-    let mut items = [0usize; 262_200];
-    let mut bytes = [0u8; 262_200];
-    let mut out = [0u8; 131_200];
+    let mut input = input_room();
+    let mut items = items_room();
+    let mut bytes = bytes_room();
+    let mut out = out_room();
     let n = io::read_full(STDIN_FILENO, &mut input);
     answer_all(&input[..n], &mut items, &mut bytes, &mut out);
 }

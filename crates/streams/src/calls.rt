@@ -1,27 +1,21 @@
 // The operations that call the reader, and the one that alters a buffer between calls.
 ghost use Prim.Native.Nat.{_≤_};
+use crate::asked::Asked;
 use crate::outcome;
-use crate::scene::Acted;
+use crate::outcome::Called;
+use crate::scene;
 use crate::scene::Scene;
 use cases::say;
 use cases::words;
-use cases::words::Number;
-use frame_decoder::Answer;
-use frame_decoder::Heard;
 use frame_decoder::Reader;
 
 // So many calls are enough for any piece here: the largest payload has 14,563 envelopes.
 const MOST_CALLS: usize = 100_000;
 
-// Whether nothing more of the piece is to be handed in (6.3).
-fn ends_piece(heard: Heard) -> bool {
-    let answer = heard.answer;
-    match answer {
-        Answer::More => true,
-        Answer::Refused(_) => true,
-        Answer::Envelope(_, _, _) => false,
-        Answer::Leftover(_) => false,
-    }
+// A call, and what is written of it. The whole step is held nowhere else: it is large.
+fn called(reader: Reader, segment: &mut [u8], reassembly: &mut [u8], rest: &[u8]) -> Called {
+    let step = reader.read(segment, reassembly, rest);
+    outcome::step(step, segment, reassembly)
 }
 
 // Calls with what is left of the piece until more or a refusal comes, but at most so often.
@@ -36,19 +30,16 @@ fn use_up(
     let mut unread = piece.len();
     let mut left = most;
     while 0 < left {
-        let step = reader.read(segment, reassembly, &piece[piece.len() - unread..]);
-        let heard = step.heard;
-        outcome::step(step, segment, reassembly);
-        reader = step.reader;
-        if ends_piece(heard) {
+        let call = called(reader, segment, reassembly, &piece[piece.len() - unread..]);
+        reader = call.reader;
+        if call.is_last {
             return reader;
         }
-        let taken = heard.taken;
-        if unread < taken {
+        if unread < call.taken {
             say::text(b"took too much; ");
             return reader;
         }
-        unread -= taken;
+        unread -= call.taken;
         left -= 1;
     }
     reader
@@ -88,15 +79,10 @@ fn use_up_all(
 }
 
 // The buffers as the calls were lent them.
-fn hold(scene: Scene, reader: Reader, segment: &[u8], reassembly: &[u8]) -> Acted {
+fn hold(segment: &[u8], reassembly: &[u8]) {
     say::spelt(b"holds ", segment);
     say::spelt(b" ", reassembly);
     say::text(b"; ");
-    Acted::On(Scene {
-        reader,
-        segment_len: scene.segment_len,
-        reassembly_len: scene.reassembly_len,
-    })
 }
 
 // Only the front of each buffer is lent; where it is not so long it is no case.
@@ -107,94 +93,46 @@ fn use_up_lent(
     bytes: &[u8],
     lengths: &[usize],
     most: usize,
-) -> Acted {
-    let reader = scene.reader;
+) -> Scene {
     let segment_len = scene.segment_len;
     let reassembly_len = scene.reassembly_len;
     if segment.len() < segment_len {
-        return Acted::Missing;
+        return scene::told(scene, false);
     }
     if reassembly.len() < reassembly_len {
-        return Acted::Missing;
+        return scene::told(scene, false);
     }
     let lent = &mut segment[0..segment_len];
     let joined = &mut reassembly[0..reassembly_len];
-    let after = use_up_all(reader, lent, joined, bytes, lengths, most);
-    hold(scene, after, lent, joined)
+    let reader = use_up_all(scene.reader, lent, joined, bytes, lengths, most);
+    hold(lent, joined);
+    Scene {
+        reader,
+        segment_len,
+        reassembly_len,
+        is_case: true,
+    }
 }
 
-pub fn call(
-    scene: Scene,
-    part: &[u8],
-    items: &mut [usize],
-    bytes: &mut [u8],
-    segment: &mut [u8],
-    reassembly: &mut [u8],
-) -> Acted {
-    let Number::Value(most) = words::number_at(part, 1) else {
-        return Acted::Missing;
-    };
-    let Number::Value(n) = words::bytes_at(part, 2, items, bytes) else {
-        return Acted::Missing;
-    };
-    let whole = [n];
-    use_up_lent(
-        scene,
-        segment,
-        reassembly,
-        words::front(bytes, n),
-        &whole,
-        most,
-    )
-}
-
+// A read names the lengths of its pieces; a call hands in all the bytes as one piece, and names how often.
 pub fn read(
     scene: Scene,
-    part: &[u8],
-    items: &mut [usize],
-    lengths: &mut [usize],
-    bytes: &mut [u8],
+    asked: Asked,
+    items: &[usize],
+    bytes: &[u8],
     segment: &mut [u8],
     reassembly: &mut [u8],
-) -> Acted {
-    let Number::Value(cuts) = words::lengths_at(part, 1, lengths) else {
-        return Acted::Missing;
-    };
-    let Number::Value(n) = words::bytes_at(part, 2, items, bytes) else {
-        return Acted::Missing;
-    };
-    let pieces = words::front_items(lengths, cuts);
-    use_up_lent(
-        scene,
-        segment,
-        reassembly,
-        words::front(bytes, n),
-        pieces,
-        MOST_CALLS,
-    )
+) -> Scene {
+    if asked.name == 0 {
+        let lengths = words::front_items(items, asked.first);
+        return use_up_lent(scene, segment, reassembly, bytes, lengths, MOST_CALLS);
+    }
+    let whole = [asked.second];
+    use_up_lent(scene, segment, reassembly, bytes, &whole, asked.first)
 }
 
 // Puts some bytes into a buffer at a place; where they do not fit it is no case.
-pub fn alter(
-    scene: Scene,
-    part: &[u8],
-    items: &mut [usize],
-    bytes: &mut [u8],
-    buffer: &mut [u8],
-) -> Acted {
-    let Number::Value(at) = words::number_at(part, 1) else {
-        return Acted::Missing;
-    };
-    let Number::Value(n) = words::bytes_at(part, 2, items, bytes) else {
-        return Acted::Missing;
-    };
-    if put(buffer, at, words::front(bytes, n)) {
-        return Acted::On(scene);
-    }
-    Acted::Missing
-}
-
-fn put(buffer: &mut [u8], at: usize, bytes: &[u8]) -> bool {
+pub fn put(buffer: &mut [u8], at: usize, bytes: &[u8]) -> bool {
     if buffer.len() < at {
         return false;
     }

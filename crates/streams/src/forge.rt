@@ -1,8 +1,6 @@
-// The operations that make no call: other lent lengths, and states by hand.
-use crate::scene::Acted;
+// The operations that make no call: states by hand.
+use crate::asked::Asked;
 use crate::scene::Scene;
-use cases::words;
-use cases::words::Number;
 use frame_decoder::Phase;
 use frame_decoder::Reader;
 use refusal::Refusal;
@@ -30,63 +28,52 @@ fn refusal_of(number: usize) -> Refusal {
     }
 }
 
-// A phase that says nothing of the pending bytes keeps their number.
-fn kept(scene: Scene, phase: Phase) -> Acted {
-    let reader = scene.reader;
-    pending(scene, phase, reader.pending)
+fn rest(filled: usize, len: usize, self_contained: bool) -> Phase {
+    Phase::Rest {
+        filled,
+        len,
+        self_contained,
+    }
 }
 
-fn pending(scene: Scene, phase: Phase, pending: usize) -> Acted {
-    let old = scene.reader;
+fn phase_of(name: usize, a: usize, b: usize) -> Phase {
+    match name {
+        5 => Phase::Header { filled: a },
+        6 => rest(a, b, false),
+        7 => rest(a, b, true),
+        8 => Phase::InSegment { len: a, at: b },
+        9 => Phase::InReassembly { at: a },
+        _ => Phase::Stopped(refusal_of(a)),
+    }
+}
+
+// A phase that says nothing of the pending bytes keeps their number.
+fn pending_of(name: usize, b: usize, old: usize) -> usize {
+    match name {
+        6..=8 => old,
+        _ => b,
+    }
+}
+
+fn with_phase(old: Reader, phase: Phase, pending: usize) -> Reader {
     let form = old.form;
-    let reader = Reader {
+    Reader {
         form,
         segment_len: old.segment_len,
         reassembly_len: old.reassembly_len,
         pending,
         phase,
-    };
-    Acted::On(Scene {
-        reader,
+    }
+}
+
+pub fn forged(scene: Scene, asked: Asked) -> Scene {
+    let old = scene.reader;
+    let phase = phase_of(asked.name, asked.first, asked.second);
+    let pending = pending_of(asked.name, asked.second, old.pending);
+    Scene {
+        reader: with_phase(old, phase, pending),
         segment_len: scene.segment_len,
         reassembly_len: scene.reassembly_len,
-    })
-}
-
-fn rest(scene: Scene, filled: usize, len: usize, self_contained: bool) -> Acted {
-    let phase = Phase::Rest {
-        filled,
-        len,
-        self_contained,
-    };
-    kept(scene, phase)
-}
-
-fn lent(scene: Scene, segment_len: usize, reassembly_len: usize) -> Acted {
-    let reader = scene.reader;
-    Acted::On(Scene {
-        reader,
-        segment_len,
-        reassembly_len,
-    })
-}
-
-pub fn forged(scene: Scene, part: &[u8]) -> Acted {
-    let Number::Value(a) = words::number_at(part, 1) else {
-        return Acted::Missing;
-    };
-    let Number::Value(b) = words::number_at(part, 2) else {
-        return Acted::Missing;
-    };
-    let name = words::field(part, b' ', 0);
-    match words::index(b"lend header rest alone payload joined stopped", name) {
-        0 => lent(scene, a, b),
-        1 => pending(scene, Phase::Header { filled: a }, b),
-        2 => rest(scene, a, b, false),
-        3 => rest(scene, a, b, true),
-        4 => kept(scene, Phase::InSegment { len: a, at: b }),
-        5 => pending(scene, Phase::InReassembly { at: a }, b),
-        6 => pending(scene, Phase::Stopped(refusal_of(a)), b),
-        _ => Acted::Missing,
+        is_case: true,
     }
 }

@@ -65,18 +65,25 @@ fn say_envelope<'a>(
     say_check(b" ", crc::crc32(part));
 }
 
-fn say_answer<'a>(answer: Answer, segment: &'a [u8], reassembly: &'a [u8]) {
+// Whether nothing more of the piece is to be handed in (6.3).
+fn say_answer<'a>(answer: Answer, segment: &'a [u8], reassembly: &'a [u8]) -> bool {
     match answer {
-        Answer::Envelope(buffer, place, envelope) => say_envelope(
-            buffer,
-            place,
-            envelope,
-            segment,
-            reassembly,
-        ),
-        Answer::Leftover(n) => say::number(b"leftover ", n),
-        Answer::More => say::text(b"more"),
-        Answer::Refused(why) => say::refused(b"refused ", why),
+        Answer::Envelope(buffer, place, envelope) => {
+            say_envelope(buffer, place, envelope, segment, reassembly);
+            false
+        }
+        Answer::Leftover(n) => {
+            say::number(b"leftover ", n);
+            false
+        }
+        Answer::More => {
+            say::text(b"more");
+            true
+        }
+        Answer::Refused(why) => {
+            say::refused(b"refused ", why);
+            true
+        }
     }
 }
 
@@ -114,15 +121,33 @@ fn say_reader(reader: Reader) {
     say::number(b" held ", reader.held());
 }
 
-// The answer, the bytes taken, the reader after it, and one check over both buffers.
-pub fn step<'a>(step: Step, segment: &'a [u8], reassembly: &'a [u8]) {
-    let heard = step.heard;
-    let answer = heard.answer;
-    let reader = step.reader;
-    say_answer(answer, segment, reassembly);
-    say::number(b" took ", heard.taken);
-    say_reader(reader);
+// One check over both buffers.
+fn say_buffers<'a>(segment: &'a [u8], reassembly: &'a [u8]) {
     let check = Running32::start().more(segment).more(reassembly);
     say_check(b" check ", check.finish());
     say::text(b"; ");
+}
+
+// What a caller goes on with: the reader, how many bytes the call took, and whether it was the last for the piece.
+pub struct Called {
+    pub reader: Reader,
+    pub taken: usize,
+    pub is_last: bool,
+}
+
+// The answer, the bytes taken, the reader after it, and the check.
+pub fn step<'a>(step: Step, segment: &'a [u8], reassembly: &'a [u8]) -> Called {
+    let heard = step.heard;
+    let taken = heard.taken;
+    let answer = heard.answer;
+    let is_last = say_answer(answer, segment, reassembly);
+    let reader = step.reader;
+    say::number(b" took ", taken);
+    say_reader(reader);
+    say_buffers(segment, reassembly);
+    Called {
+        reader,
+        taken,
+        is_last,
+    }
 }

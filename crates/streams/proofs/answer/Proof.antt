@@ -8,12 +8,12 @@ use Rattle.streams.proofs.answer.Statement.{statement}
 use Rattle.streams.proofs.answer.Tie as tie
 
 abbrev Inv-loop : tie.InvT-loop
-Inv-loop line items₀ lengths₀ bytes₀ segment₀ reassembly₀ last scene₀ k₀ t items lengths bytes segment reassembly scene k =
-    (length items ≡ length items₀) × (length lengths ≡ length lengths₀) × (length bytes ≡ length bytes₀) ×
+Inv-loop line items₀ bytes₀ segment₀ reassembly₀ scene₀ last k₀ t11 items bytes segment reassembly scene k =
+    (length items ≡ length items₀) × (length bytes ≡ length bytes₀) ×
     (length segment ≡ length segment₀) × (length reassembly ≡ length reassembly₀)
 
 abbrev μ-loop : tie.MeasureT-loop
-μ-loop line items₀ lengths₀ bytes₀ segment₀ reassembly₀ last scene₀ k₀ t items lengths bytes segment reassembly scene k =
+μ-loop line items₀ bytes₀ segment₀ reassembly₀ scene₀ last k₀ t11 items bytes segment reassembly scene k =
     last - k
 
 pub answer-spec : {M : Type 1} → statement M
@@ -23,11 +23,6 @@ answer-spec =
     Inv-loop
     μ-loop
     (λ c κs. tt)
-    (λ c. search needs)
-    (λ c. search needs)
-    (λ c. tt)
-    (λ c κs. tt)
-    (λ c κs. tt)
     (λ c κs. tt)
     (λ c. search needs)
     (λ c. omega arith)
@@ -35,25 +30,25 @@ answer-spec =
     (λ c. search needs)
     (λ c. search needs)
     (λ c. search needs)
-    (λ c. search needs)
     (λ c. tt)
-    (λ c. omega arith)
-    (λ c κs. tt)
-    (λ c κs. tt)
-    (λ c. search needs)
-    (λ c. search needs)
-    (λ c. search needs)
     (λ c. search needs)
     (λ c. search needs)
     (λ c. search needs)
     (λ c. search needs)
     (λ c. tt)
     (λ c. omega arith)
+    (λ c κs. tt)
+    (λ c κs. tt)
+    (λ c. omega arith)
     (λ c. omega arith)
     (λ c. search needs)
     (λ c. search needs)
-    (λ c κs. tt)
     (λ c. search needs)
+    (λ c. search needs)
+    (λ c. search needs)
+    (λ c. tt)
+    (λ c. search needs)
+    (λ c κs. tt)
     (λ c. search needs)
     (λ c. search needs)
     (λ c. search needs)

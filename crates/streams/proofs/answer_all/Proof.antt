@@ -8,12 +8,12 @@ use Rattle.streams.proofs.answer_all.Statement.{statement}
 use Rattle.streams.proofs.answer_all.Tie as tie
 
 abbrev Inv-loop : tie.InvT-loop
-Inv-loop input items₀ lengths₀ bytes₀ segment₀ reassembly₀ start₀ items lengths bytes segment reassembly start =
-    (length items ≡ length items₀) × (length lengths ≡ length lengths₀) × (length bytes ≡ length bytes₀) ×
+Inv-loop input items₀ bytes₀ segment₀ reassembly₀ start₀ items bytes segment reassembly start =
+    (length items ≡ length items₀) × (length bytes ≡ length bytes₀) ×
     (length segment ≡ length segment₀) × (length reassembly ≡ length reassembly₀)
 
 abbrev μ-loop : tie.MeasureT-loop
-μ-loop input items₀ lengths₀ bytes₀ segment₀ reassembly₀ start₀ items lengths bytes segment reassembly start =
+μ-loop input items₀ bytes₀ segment₀ reassembly₀ start₀ items bytes segment reassembly start =
     length input - start
 
 pub answer-all-spec : {M : Type 1} → statement M
@@ -29,7 +29,6 @@ answer-all-spec =
     (λ c. omega arith)
     (λ c. omega arith)
     (λ c. omega arith)
-    (λ c. search needs)
     (λ c. search needs)
     (λ c. search needs)
     (λ c. search needs)

@@ -8,11 +8,11 @@ use Rattle.streams.proofs.calls.use_up.Statement.{statement}
 use Rattle.streams.proofs.calls.use_up.Tie as tie
 
 abbrev Inv-loop : tie.InvT-loop
-Inv-loop segment₀ reassembly₀ piece most reader₀ unread₀ left₀ t12 segment reassembly reader unread left =
+Inv-loop segment₀ reassembly₀ piece most reader₀ unread₀ left₀ t10 segment reassembly reader unread left =
     (unread ≤ length piece) × (length segment ≡ length segment₀) × (length reassembly ≡ length reassembly₀)
 
 abbrev μ-loop : tie.MeasureT-loop
-μ-loop segment₀ reassembly₀ piece most reader₀ unread₀ left₀ t12 segment reassembly reader unread left = left
+μ-loop segment₀ reassembly₀ piece most reader₀ unread₀ left₀ t10 segment reassembly reader unread left = left
 
 pub use-up-spec : {M : Type 1} → statement M
 use-up-spec =
@@ -25,8 +25,6 @@ use-up-spec =
     (λ c. omega arith)
     (λ c. omega arith)
     (λ c. omega arith)
-    (λ c κs. tt)
-    (λ c κs. tt)
     (λ c κs. tt)
     (λ c. search needs)
     (λ c. search needs)
