@@ -107,14 +107,27 @@ fn answer_all(
     }
 }
 
-// The longest input; and the longest list of warnings in an envelope, with some bytes more.
+// The longest input; and the longest list of warnings in an envelope, with some bytes more. As answers of functions the arrays
+// stay opaque to a proof.
+fn input_room() -> [u8; 393_216] {
+    [0u8; 393_216]
+}
+
+fn items_room() -> [usize; 131_200] {
+    [0usize; 131_200]
+}
+
+fn bytes_room() -> [u8; 131_200] {
+    [0u8; 131_200]
+}
+
 fn main() {
-    let mut input = [0u8; 393_216];
-    let mut items = [0usize; 131_200];
+    let mut input = input_room();
+    let mut items = items_room();
     let mut id = [0u8; 64];
-    let mut text = [0u8; 131_200];
-    let mut bytes = [0u8; 131_200];
-    let mut out = [0u8; 131_200];
+    let mut text = bytes_room();
+    let mut bytes = bytes_room();
+    let mut out = bytes_room();
     let n = io::read_full(STDIN_FILENO, &mut input);
     answer_all(
         &input[..n],

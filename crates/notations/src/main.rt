@@ -100,12 +100,25 @@ fn answer_all(input: &[u8], items: &mut [usize], bytes: &mut [u8], out: &mut [u8
     }
 }
 
-// The longest input; and the longest list of strings with some bytes more, which is more than a list may have lengths.
+// The longest input; and the longest list of strings with some bytes more, which is more than a list may have lengths. As answers of functions the
+// arrays stay opaque to a proof.
+fn input_room() -> [u8; 262_144] {
+    [0u8; 262_144]
+}
+
+fn items_room() -> [usize; 131_080] {
+    [0usize; 131_080]
+}
+
+fn bytes_room() -> [u8; 131_080] {
+    [0u8; 131_080]
+}
+
 fn main() {
-    let mut input = [0u8; 262_144];
-    let mut items = [0usize; 131_080];
-    let mut bytes = [0u8; 131_080];
-    let mut out = [0u8; 131_080];
+    let mut input = input_room();
+    let mut items = items_room();
+    let mut bytes = bytes_room();
+    let mut out = bytes_room();
     let n = io::read_full(STDIN_FILENO, &mut input);
     answer_all(&input[..n], &mut items, &mut bytes, &mut out);
 }
