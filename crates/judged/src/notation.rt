@@ -1,0 +1,117 @@
+// Notations.
+use crate::words;
+use refusal::Refusal;
+use types::Place;
+use types::ReadByte;
+use types::ReadBytes;
+use types::ReadInt;
+use types::ReadLong;
+use types::ReadPart;
+use types::ReadShort;
+use types::ReadStrings;
+use types::Walk;
+use types::Walked;
+use types::number::bits32;
+use types::number::bits64;
+use types::read;
+
+// Word 0: 0 a refusal (word 1 its number), 1 a value (word 1; signed ones as their bits), 2 a part (words 1 and 2: start and length), 3 null, 4 a
+// list (words 1 and 2: how many strings and where the first begins). Word 3 is where the notation ends.
+fn put_said(said: &mut [usize], kind: usize, a: usize, b: usize, next: usize) {
+    words::put(said, 0, kind);
+    words::put(said, 1, a);
+    words::put(said, 2, b);
+    words::put(said, 3, next);
+}
+
+fn put_refused(said: &mut [usize], why: Refusal) {
+    put_said(said, 0, words::number(why), 0, 0);
+}
+
+fn put_part(said: &mut [usize], answer: ReadPart) {
+    match answer {
+        ReadPart::Part(place, next) => put_said(said, 2, place.start, place.len, next),
+        ReadPart::Refused(why) => put_refused(said, why),
+    }
+}
+
+fn read_byte(bytes: &[u8], at: usize, said: &mut [usize]) {
+    match read::read_byte(bytes, at) {
+        ReadByte::Value(x, next) => put_said(said, 1, x as usize, 0, next),
+        ReadByte::Refused(why) => put_refused(said, why),
+    }
+}
+
+fn read_short(bytes: &[u8], at: usize, said: &mut [usize]) {
+    match read::read_short(bytes, at) {
+        ReadShort::Value(x, next) => put_said(said, 1, x as usize, 0, next),
+        ReadShort::Refused(why) => put_refused(said, why),
+    }
+}
+
+fn read_int(bytes: &[u8], at: usize, said: &mut [usize]) {
+    match read::read_int(bytes, at) {
+        ReadInt::Value(x, next) => put_said(said, 1, bits32(x) as usize, 0, next),
+        ReadInt::Refused(why) => put_refused(said, why),
+    }
+}
+
+fn read_long(bytes: &[u8], at: usize, said: &mut [usize]) {
+    match read::read_long(bytes, at) {
+        ReadLong::Value(x, next) => put_said(said, 1, bits64(x) as usize, 0, next),
+        ReadLong::Refused(why) => put_refused(said, why),
+    }
+}
+
+fn read_bytes(bytes: &[u8], at: usize, said: &mut [usize]) {
+    match read::read_bytes(bytes, at) {
+        ReadBytes::Null(next) => put_said(said, 3, 0, 0, next),
+        ReadBytes::Part(place, next) => put_said(said, 2, place.start, place.len, next),
+        ReadBytes::Refused(why) => put_refused(said, why),
+    }
+}
+
+fn read_list(bytes: &[u8], at: usize, said: &mut [usize]) {
+    match read::read_string_list(bytes, at) {
+        ReadStrings::Strings(walk, next) => put_said(said, 4, walk.left as usize, walk.at, next),
+        ReadStrings::Refused(why) => put_refused(said, why),
+    }
+}
+
+// The notations in this order: byte, short, int, long, uuid, short bytes, string, long string, bytes, string list.
+#[no_mangle]
+pub extern "C" fn judged_notation(kind: usize, bytes: &[u8], at: usize, said: &mut [usize]) {
+    match kind {
+        0 => read_byte(bytes, at, said),
+        1 => read_short(bytes, at, said),
+        2 => read_int(bytes, at, said),
+        3 => read_long(bytes, at, said),
+        4 => put_part(said, read::read_uuid(bytes, at)),
+        5 => put_part(said, read::read_short_bytes(bytes, at)),
+        6 => put_part(said, read::read_string(bytes, at)),
+        7 => put_part(said, read::read_long_string(bytes, at)),
+        8 => read_bytes(bytes, at, said),
+        _ => read_list(bytes, at, said),
+    }
+}
+
+fn put_walked(said: &mut [usize], place: Place, walk: Walk) {
+    put_said(said, 2, place.start, place.len, walk.at);
+    words::put(said, 4, walk.left as usize);
+}
+
+// The next string of a list of which so many are left: a part, with the number left in word 4, or 3 at the end.
+#[no_mangle]
+pub extern "C" fn judged_next(bytes: &[u8], left: u16, at: usize, said: &mut [usize]) {
+    match read::next_string(bytes, Walk { left, at }) {
+        Walked::Text(place, walk) => put_walked(said, place, walk),
+        Walked::End(next) => put_said(said, 3, 0, 0, next),
+        Walked::Refused(why) => put_refused(said, why),
+    }
+}
+
+// Copies the part at a place, and answers how long it is.
+#[no_mangle]
+pub extern "C" fn judged_part(bytes: &[u8], start: usize, len: usize, out: &mut [u8]) -> usize {
+    words::copy(out, types::part(bytes, Place { start, len }))
+}

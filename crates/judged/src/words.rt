@@ -1,0 +1,79 @@
+// Lists of words, and the values that several calls have in common.
+use refusal::Refusal;
+use segment::Form;
+
+pub fn get(words: &[usize], k: usize) -> usize {
+    if k < words.len() {
+        return words[k];
+    }
+    0
+}
+
+pub fn put(words: &mut [usize], k: usize, x: usize) {
+    if k < words.len() {
+        words[k] = x;
+    }
+}
+
+fn put_byte(out: &mut [u8], k: usize, b: u8) {
+    if k < out.len() {
+        out[k] = b;
+    }
+}
+
+// Copies what fits, and answers how much there was.
+pub fn copy(out: &mut [u8], bytes: &[u8]) -> usize {
+    let mut i: usize = 0;
+    while i < bytes.len() {
+        put_byte(out, i, bytes[i]);
+        i += 1;
+    }
+    i
+}
+
+pub fn flag(is: bool) -> usize {
+    if is { 1 } else { 0 }
+}
+
+// The number of a refusal.
+pub fn number(why: Refusal) -> usize {
+    why.number() as usize
+}
+
+// 1 is the long form, all else the short one.
+pub fn form(word: usize) -> Form {
+    match word {
+        1 => Form::Long,
+        _ => Form::Short,
+    }
+}
+
+pub fn of_form(form: Form) -> usize {
+    match form {
+        Form::Short => 0,
+        Form::Long => 1,
+    }
+}
+
+// The refusal of a number, and the last one for any other.
+pub fn refusal(number: usize) -> Refusal {
+    match number {
+        1 => Refusal::Inadmissible,
+        2 => Refusal::HeaderCheckDiffers,
+        3 => Refusal::PayloadCompressed,
+        4 => Refusal::SegmentTooLong,
+        5 => Refusal::PayloadCheckDiffers,
+        6 => Refusal::UnexpectedSelfContained,
+        7 => Refusal::ReassemblyTooShort,
+        8 => Refusal::NegativeLength,
+        9 => Refusal::UnknownVersion,
+        10 => Refusal::UnknownOpcode,
+        11 => Refusal::TracingIdCutShort,
+        12 => Refusal::PastEnd,
+        13 => Refusal::NotUtf8,
+        14 => Refusal::OutputTooShort,
+        15 => Refusal::NotWritable,
+        16 => Refusal::EnvelopeDoesNotFit,
+        _ => Refusal::SegmentNotEmpty,
+    }
+}

@@ -1,0 +1,197 @@
+// Notations, envelopes and segments written.
+use crate::reader;
+use crate::words;
+use frame::write::write_envelope;
+use frame_encoder::Encoded;
+use frame_encoder::FrameEncoder;
+use segment::ReadHeader;
+use types::Written;
+use types::number::signed32;
+use types::number::signed64;
+use types::write;
+
+// Word 0: 0 a refusal (word 1 its number), 1 where the bytes written end (word 1).
+fn put_written(said: &mut [usize], answer: Written) {
+    match answer {
+        Written::Next(next) => {
+            words::put(said, 0, 1);
+            words::put(said, 1, next);
+        }
+        Written::Refused(why) => {
+            words::put(said, 0, 0);
+            words::put(said, 1, words::number(why));
+        }
+    }
+}
+
+fn written_number(kind: usize, out: &mut [u8], at: usize, bits: u64) -> Written {
+    match kind {
+        0 => write::write_byte(out, at, (bits % 0x100) as u8),
+        1 => write::write_short(out, at, (bits % 0x1_0000) as u16),
+        2 => write::write_int(out, at, signed32((bits % 0x1_0000_0000) as u32)),
+        _ => write::write_long(out, at, signed64(bits)),
+    }
+}
+
+// Byte, short, int or long, of which the lowest bits count.
+#[no_mangle]
+pub extern "C" fn judged_write_number(
+    kind: usize,
+    out: &mut [u8],
+    at: usize,
+    bits: u64,
+    said: &mut [usize],
+) {
+    put_written(said, written_number(kind, out, at, bits));
+}
+
+fn written_bytes(kind: usize, out: &mut [u8], at: usize, bytes: &[u8]) -> Written {
+    match kind {
+        4 => write::write_uuid(out, at, bytes),
+        5 => write::write_short_bytes(out, at, bytes),
+        6 => write::write_string(out, at, bytes),
+        7 => write::write_long_string(out, at, bytes),
+        8 => write::write_bytes(out, at, bytes),
+        _ => write::write_null(out, at),
+    }
+}
+
+// The notations as `judged_notation` names them; any other name is null.
+#[no_mangle]
+pub extern "C" fn judged_write_bytes(
+    kind: usize,
+    out: &mut [u8],
+    at: usize,
+    bytes: &[u8],
+    said: &mut [usize],
+) {
+    put_written(said, written_bytes(kind, out, at, bytes));
+}
+
+#[no_mangle]
+pub extern "C" fn judged_write_list(
+    out: &mut [u8],
+    at: usize,
+    text: &[u8],
+    lens: &[usize],
+    said: &mut [usize],
+) {
+    put_written(said, write::write_string_list(out, at, text, lens));
+}
+
+// The fields are those of `reader::header`.
+#[no_mangle]
+pub extern "C" fn judged_write_envelope(
+    out: &mut [u8],
+    fields: &[usize],
+    id: &[u8],
+    text: &[u8],
+    lens: &[usize],
+    body: &[u8],
+    said: &mut [usize],
+) {
+    put_written(
+        said,
+        write_envelope(out, reader::header(fields), id, text, lens, body),
+    );
+}
+
+// Form, payload so far.
+fn encoder(state: &[usize]) -> FrameEncoder {
+    FrameEncoder {
+        form: words::form(words::get(state, 0)),
+        payload: words::get(state, 1),
+    }
+}
+
+fn put_encoder(state: &mut [usize], next: FrameEncoder) {
+    let form = next.form;
+    words::put(state, 0, words::of_form(form));
+    words::put(state, 1, next.payload);
+}
+
+// Word 0: 0 a refusal (word 1 its number), 1 so many bytes written (word 1) and so many taken of what was given (word 2).
+fn put_encoded(said: &mut [usize], answer: Encoded) {
+    match answer {
+        Encoded::Wrote(size, taken) => {
+            words::put(said, 0, 1);
+            words::put(said, 1, size);
+            words::put(said, 2, taken);
+        }
+        Encoded::Refused(why) => {
+            words::put(said, 0, 0);
+            words::put(said, 1, words::number(why));
+        }
+    }
+}
+
+#[no_mangle]
+pub extern "C" fn judged_can_fit(state: &[usize], len: usize) -> bool {
+    encoder(state).can_fit(len)
+}
+
+#[no_mangle]
+pub extern "C" fn judged_has_envelopes(state: &[usize]) -> bool {
+    encoder(state).has_envelopes()
+}
+
+#[no_mangle]
+pub extern "C" fn judged_reset(state: &mut [usize]) {
+    let next = encoder(state).reset();
+    put_encoder(state, next);
+}
+
+#[no_mangle]
+pub extern "C" fn judged_add(
+    state: &mut [usize],
+    out: &mut [u8],
+    envelope: &[u8],
+    said: &mut [usize],
+) {
+    let step = encoder(state).add_envelope(out, envelope);
+    let next = step.encoder;
+    let answer = step.answer;
+    put_encoder(state, next);
+    put_encoded(said, answer);
+}
+
+#[no_mangle]
+pub extern "C" fn judged_finish(state: &mut [usize], out: &mut [u8], said: &mut [usize]) {
+    let step = encoder(state).finalize_self_contained(out);
+    let next = step.encoder;
+    let answer = step.answer;
+    put_encoder(state, next);
+    put_encoded(said, answer);
+}
+
+#[no_mangle]
+pub extern "C" fn judged_piece(
+    state: &mut [usize],
+    out: &mut [u8],
+    envelope: &[u8],
+    said: &mut [usize],
+) {
+    let step = encoder(state).finalize_non_self_contained(out, envelope);
+    let next = step.encoder;
+    let answer = step.answer;
+    put_encoder(state, next);
+    put_encoded(said, answer);
+}
+
+// Word 0: 0 incomplete, 1 a header (words 1 to 3: payload's length, length before compression, self-contained), 2 a refusal (word 1 its number).
+#[no_mangle]
+pub extern "C" fn judged_header(long: usize, bytes: &[u8], said: &mut [usize]) {
+    match segment::read_header(words::form(long), bytes) {
+        ReadHeader::Incomplete => words::put(said, 0, 0),
+        ReadHeader::Whole(header) => {
+            words::put(said, 0, 1);
+            words::put(said, 1, header.payload as usize);
+            words::put(said, 2, header.uncompressed as usize);
+            words::put(said, 3, words::flag(header.self_contained));
+        }
+        ReadHeader::Refused(why) => {
+            words::put(said, 0, 2);
+            words::put(said, 1, words::number(why));
+        }
+    }
+}
