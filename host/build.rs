@@ -1,4 +1,4 @@
-//! Links the static library that `rt staticlib collector` writes.
+//! Links the static libraries that `rt staticlib collector` and `rt staticlib judged` write.
 use std::path::Path;
 
 fn main() {
@@ -7,9 +7,11 @@ fn main() {
         .expect("host/ stands in the repository");
     let folder = root.join("target/staticlib");
     println!("cargo:rustc-link-search=native={}", folder.display());
-    println!("cargo:rustc-link-lib=static=collector");
-    println!(
-        "cargo:rerun-if-changed={}",
-        folder.join("libcollector.a").display()
-    );
+    for name in ["collector", "judged"] {
+        println!("cargo:rustc-link-lib=static={name}");
+        println!(
+            "cargo:rerun-if-changed={}",
+            folder.join(format!("lib{name}.a")).display()
+        );
+    }
 }

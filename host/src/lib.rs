@@ -1,5 +1,6 @@
 //! What the library exports by the C convention, in safe Rust.
 
+pub mod judged;
 pub mod plain;
 
 mod exported {
