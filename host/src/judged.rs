@@ -455,7 +455,7 @@ fn buffer(word: usize) -> Buffer {
 
 /// What the reader hands back for a place.
 pub fn stream_part(which: Buffer, segment: &[u8], reassembly: &[u8], place: Place) -> Vec<u8> {
-    let mut out = vec![0; segment.len().max(reassembly.len())];
+    let mut out = vec![0; place.len.min(segment.len().max(reassembly.len()))];
     let n = unsafe {
         judged_stream_part(
             which as usize,
@@ -562,7 +562,7 @@ pub fn next_string(bytes: &[u8], walk: Walk) -> Walked {
 }
 
 pub fn part(bytes: &[u8], place: Place) -> Vec<u8> {
-    let mut out = vec![0; bytes.len()];
+    let mut out = vec![0; place.len.min(bytes.len())];
     let n = unsafe {
         judged_part(
             bytes.as_ptr(),

@@ -1,0 +1,313 @@
+//! Compares this library with the Rust original on inputs made from a seed. README.md in the folder above tells how it is run and what it compares.
+#[allow(dead_code)]
+#[path = "../../host/src/judged.rs"]
+mod judged;
+
+mod classes;
+mod envelopes;
+mod exhaustive;
+mod faults;
+mod judge_checks;
+mod judge_envelopes;
+mod judge_notations;
+mod judge_streams;
+mod judge_writing;
+mod ours;
+mod random;
+mod record;
+mod rules;
+mod said;
+mod smallest;
+mod streams;
+mod tally;
+mod theirs;
+
+use envelopes::Faults;
+use random::Random;
+use tally::Tally;
+
+type Verdict = Result<(), String>;
+
+const USAGE: &str = "judge compare STREAMS ENVELOPES SEED | judge faults SEED | judge classes SEED | judge record SEED QUESTIONS ANSWERS";
+
+/// How often something is wrong in an input: never, seldom, often.
+fn faults_of(k: usize) -> Faults {
+    Faults([0, 40, 12, 4][k % 4])
+}
+
+fn a_stream(
+    random: &mut Random,
+    k: usize,
+    lent: &mut judge_streams::Lent,
+    tally: &mut Tally,
+) -> Verdict {
+    let scale = if k % 2_000 == 1_999 {
+        streams::LARGE
+    } else {
+        streams::SMALL
+    };
+    let stream = streams::stream(random, scale, faults_of(k));
+    judge_streams::judge(&stream, lent, tally).map_err(|_| {
+        let fails = |stream: &streams::Stream| {
+            judge_streams::judge(
+                stream,
+                &mut judge_streams::Lent::new(),
+                &mut Tally::default(),
+            )
+        };
+        let least = smallest::smallest(stream, smallest::simpler_streams, |stream| {
+            fails(stream).is_err()
+        });
+        fails(&least).err().unwrap_or_default()
+    })
+}
+
+/// The smallest bytes on which a judgement of bytes fails.
+fn on_bytes(
+    bytes: Vec<u8>,
+    tally: &mut Tally,
+    judge: impl Fn(&[u8], &mut Tally) -> Verdict,
+) -> Verdict {
+    judge(&bytes, tally).map_err(|_| {
+        let fails = |bytes: &[u8]| judge(bytes, &mut Tally::default());
+        let least = smallest::smallest(
+            bytes,
+            |bytes| smallest::simpler_bytes(bytes),
+            |bytes| fails(bytes).is_err(),
+        );
+        fails(&least).err().unwrap_or_default()
+    })
+}
+
+/// An envelope with bytes behind it, or without its last ones.
+fn an_envelope(random: &mut Random, k: usize, tally: &mut Tally) -> Verdict {
+    let mut bytes = envelopes::envelope(
+        random,
+        if k % 500 == 499 { 140_000 } else { 300 },
+        faults_of(k),
+    );
+    match random.below(6) {
+        0 => bytes.truncate(random.below(bytes.len() + 1)),
+        1 => bytes.extend(random.bytes(5)),
+        2 => {
+            let at = random.below(bytes.len());
+            bytes[at] ^= 1 << random.below(8);
+        }
+        _ => {}
+    }
+    on_bytes(bytes.clone(), tally, judge_envelopes::parse)?;
+    on_bytes(bytes, tally, judge_envelopes::size)
+}
+
+fn a_notation(random: &mut Random, k: usize, tally: &mut Tally) -> Verdict {
+    on_bytes(
+        envelopes::string_list(random, faults_of(k)),
+        tally,
+        judge_notations::list,
+    )?;
+    let n = random.below(24);
+    let mut bytes = random.bytes(n);
+    on_bytes(bytes.clone(), tally, judge_notations::numbers)?;
+    // Counts near the bytes that are there.
+    if n > 4 && !random.once_in(8) {
+        let count = (n + random.below(4)).saturating_sub(5) as u32;
+        bytes[..4].copy_from_slice(&count.to_be_bytes());
+    } else if n > 0 {
+        bytes[0] |= 0x80;
+    }
+    on_bytes(bytes.clone(), tally, judge_notations::bytes)?;
+    on_bytes(bytes.clone(), tally, judge_notations::long_string)?;
+    let from = bytes.len().min(2);
+    on_bytes(bytes[from..].to_vec(), tally, judge_notations::short_bytes)?;
+    let bits = random.next() >> random.below(64);
+    judge_notations::write_numbers(bits, tally)?;
+    judge_notations::write_text(&String::from_utf8_lossy(&bytes), tally)?;
+    judge_notations::write_bytes(&bytes, tally)
+}
+
+fn a_writing(random: &mut Random, k: usize, tally: &mut Tally) -> Verdict {
+    let fields = judge_writing::fields(random, 2_000);
+    judge_writing::envelope(&fields, tally).map_err(|_| {
+        let fails =
+            |fields: &judge_writing::Fields| judge_writing::envelope(fields, &mut Tally::default());
+        let least = smallest::smallest(fields, judge_writing::simpler_fields, |fields| {
+            fails(fields).is_err()
+        });
+        fails(&least).err().unwrap_or_default()
+    })?;
+    let lengths: Vec<usize> = if k % 200 == 0 {
+        let first = streams::LARGEST - random.below(40);
+        vec![first, random.below(60), random.below(20)]
+    } else {
+        (0..random.below(6)).map(|_| random.below(30)).collect()
+    };
+    let parts: Vec<Vec<u8>> = lengths.into_iter().map(|n| random.bytes(n)).collect();
+    judge_writing::pack(&parts, tally)?;
+    let n = if k % 200 == 0 {
+        streams::LARGEST * (1 + random.below(2)) + random.below(5) - 2
+    } else {
+        random.below(70)
+    };
+    on_bytes(random.bytes(n), tally, judge_writing::split)
+}
+
+fn a_check(random: &mut Random, k: usize, tally: &mut Tally) -> Verdict {
+    let n = if k % 100 == 0 {
+        random.below(5_000)
+    } else {
+        random.below(40)
+    };
+    on_bytes(random.bytes(n), tally, judge_checks::checks)
+}
+
+/// Inputs that are too long to be made often.
+fn long_ones(tally: &mut Tally) -> Verdict {
+    for n in [65_535, 65_536, 65_537, 131_072] {
+        judge_notations::write_text(&"a".repeat(n), tally)?;
+        judge_notations::write_bytes(&vec![0x62; n], tally)?;
+    }
+    let header = judged::Header {
+        version: 5,
+        is_response: true,
+        flags: 8,
+        stream: 1,
+        opcode: 2,
+    };
+    for (count, len) in [
+        (65_535, 0),
+        (65_536, 0),
+        (1, 65_535),
+        (1, 65_536),
+        (32_768, 1),
+        (1, 32_768),
+    ] {
+        let warnings = vec!["w".repeat(len); count];
+        judge_writing::envelope(
+            &judge_writing::Fields {
+                header,
+                id: None,
+                warnings,
+                body: vec![7],
+            },
+            tally,
+        )?;
+    }
+    let header = judged::Header { flags: 0, ..header };
+    for n in [268_435_456, 268_435_457] {
+        judge_writing::envelope(
+            &judge_writing::Fields {
+                header,
+                id: None,
+                warnings: vec![],
+                body: vec![0; n],
+            },
+            tally,
+        )?;
+    }
+    judge_writing::misused(tally)
+}
+
+fn compare(streams: usize, envelopes: usize, seed: u64, tally: &mut Tally) -> Verdict {
+    let (mut random, mut lent) = (Random::new(seed), judge_streams::Lent::new());
+    exhaustive::all(&mut random, 6 + streams / 5_000, tally)?;
+    judge_checks::all_short_headers(tally)?;
+    judge_checks::all_short_texts(if streams < 500_000 { 7 } else { 1 }, tally)?;
+    long_ones(tally)?;
+    (0..streams).try_for_each(|k| a_stream(&mut random, k, &mut lent, tally))?;
+    for k in 0..envelopes {
+        an_envelope(&mut random, k, tally)?;
+        a_writing(&mut random, k, tally)?;
+        if k % 2 == 0 {
+            a_notation(&mut random, k / 2, tally)?;
+            a_check(&mut random, k, tally)?;
+        }
+    }
+    Ok(())
+}
+
+/// Each planted fault has to be found.
+fn find_faults(seed: u64) -> Verdict {
+    for (k, name) in faults::NAMES.iter().enumerate() {
+        faults::plant(k + 1);
+        match find_fault(seed) {
+            Ok(()) => return Err(format!("not found: {name}")),
+            Err(difference) => println!("{name}: found in {difference}"),
+        }
+    }
+    Ok(())
+}
+
+fn find_fault(seed: u64) -> Verdict {
+    let (mut random, mut lent, mut tally) = (
+        Random::new(seed),
+        judge_streams::Lent::new(),
+        Tally::default(),
+    );
+    for k in 0..20_000 {
+        // A fault of streams is to be found in streams, so these come first.
+        a_stream(&mut random, k, &mut lent, &mut tally)?;
+        an_envelope(&mut random, k, &mut tally)?;
+        a_writing(&mut random, k, &mut tally)?;
+        a_notation(&mut random, k, &mut tally)?;
+        a_check(&mut random, k, &mut tally)?;
+    }
+    Ok(())
+}
+
+fn number(word: &str) -> u64 {
+    word.parse()
+        .unwrap_or_else(|_| panic!("{word} is no number"))
+}
+
+fn main() {
+    let build = if theirs::CHECKED {
+        "with overflow checks"
+    } else {
+        "without overflow checks"
+    };
+    let words: Vec<String> = std::env::args().skip(1).collect();
+    let words: Vec<&str> = words.iter().map(|word| word.as_str()).collect();
+    let mut tally = Tally::default();
+    let verdict = match words[..] {
+        ["compare", streams, envelopes, seed] => {
+            let arguments = [streams, envelopes, seed].map(number);
+            std::panic::set_hook(Box::new(|_| {}));
+            compare(
+                arguments[0] as usize,
+                arguments[1] as usize,
+                arguments[2],
+                &mut tally,
+            )
+        }
+        ["faults", seed] => {
+            let seed = number(seed);
+            std::panic::set_hook(Box::new(|_| {}));
+            find_faults(seed)
+        }
+        ["classes", seed] => {
+            let seed = number(seed);
+            std::panic::set_hook(Box::new(|_| {}));
+            classes::print(seed);
+            Ok(())
+        }
+        ["record", seed, questions, answers] => {
+            let seed = number(seed);
+            std::panic::set_hook(Box::new(|_| {}));
+            record::record(seed, questions, answers)
+        }
+        _ => Err(USAGE.to_string()),
+    };
+    if words.first() == Some(&"compare") {
+        tally.print();
+    }
+    match verdict {
+        Ok(()) if words.first() == Some(&"compare") => {
+            println!("no difference from the Rust {build}")
+        }
+        Ok(()) => {}
+        Err(difference) => {
+            println!("DIFFERENCE from the Rust {build}: {difference}");
+            std::process::exit(1);
+        }
+    }
+}

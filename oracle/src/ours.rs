@@ -1,0 +1,125 @@
+//! This library, in the words of both.
+use crate::judged::{self, Answer, Form, Parsed as Read, Reader, Reading, Walked};
+use crate::said::{Envelope, Outcome, Parsed};
+
+fn texts(bytes: &[u8], from: judged::Walk) -> Vec<Vec<u8>> {
+    let (mut walk, mut out) = (from, vec![]);
+    loop {
+        match judged::next_string(bytes, walk) {
+            Walked::Text(place, rest) => {
+                out.push(judged::part(bytes, place));
+                walk = rest;
+            }
+            Walked::End(_) => return out,
+            // No text is this long: a walk over what was read is not refused, so this shows as a difference.
+            Walked::Refused(number) => return vec![vec![number; 70_000]],
+        }
+    }
+}
+
+/// The reading and its parts, from the envelope's own bytes.
+fn plain(bytes: &[u8], reading: &Reading) -> Envelope {
+    Envelope {
+        version: reading.version,
+        is_response: reading.is_response,
+        flags: reading.flags,
+        stream: reading.stream,
+        opcode: reading.opcode,
+        id: reading.tracing_id(bytes).try_into().ok(),
+        warnings: texts(bytes, reading.warnings),
+        body: reading.body(bytes),
+    }
+}
+
+pub fn parse(bytes: &[u8]) -> Parsed {
+    match judged::parse(bytes) {
+        Read::Incomplete => Outcome::Gave(None),
+        Read::Whole(reading) => {
+            let own = &bytes[..reading.size.min(bytes.len())];
+            Outcome::Gave(Some((reading.size, plain(own, &reading))))
+        }
+        Read::Refused(number) => Outcome::Refused(number),
+    }
+}
+
+pub fn size(bytes: &[u8]) -> Outcome<usize> {
+    match judged::size(bytes) {
+        n if n < 0 => Outcome::Refused(-n as u8),
+        n => Outcome::Gave(n as usize),
+    }
+}
+
+pub fn string_list(bytes: &[u8]) -> Outcome<(Vec<Vec<u8>>, usize)> {
+    match judged::notation(judged::Notation::StringList, bytes, 0) {
+        (judged::Noted::List(walk), next) => Outcome::Gave((texts(bytes, walk), next)),
+        (judged::Noted::Refused(number), _) => Outcome::Refused(number),
+        _ => Outcome::Panicked,
+    }
+}
+
+/// What came of a piece that was used up.
+#[derive(Clone, Debug, PartialEq, Eq)]
+pub struct Heard {
+    pub envelopes: Vec<Envelope>,
+    pub leftovers: usize,
+    pub refused: Option<u8>,
+}
+
+/// The reader and the buffers that it is lent.
+pub struct Stream {
+    reader: Reader,
+    segment: Vec<u8>,
+    reassembly: Vec<u8>,
+}
+
+impl Stream {
+    pub fn new(form: Form, segment_len: usize, reassembly_len: usize) -> Self {
+        Stream {
+            reader: Reader::new(form, segment_len, reassembly_len),
+            segment: vec![0xee; segment_len],
+            reassembly: vec![0xee; reassembly_len],
+        }
+    }
+
+    /// Begins anew, over buffers that keep what they hold.
+    pub fn restart(&mut self, form: Form) {
+        self.reader = Reader::new(form, self.segment.len(), self.reassembly.len());
+    }
+
+    pub fn held(&self) -> usize {
+        self.reader.held()
+    }
+
+    /// Calls with what is left of the piece until *more* or a refusal comes.
+    pub fn feed(&mut self, piece: &[u8]) -> Heard {
+        let mut heard = Heard {
+            envelopes: vec![],
+            leftovers: 0,
+            refused: None,
+        };
+        let (mut start, mut calls) = (0, self.reader.held() + piece.len() + 1);
+        loop {
+            let call = self
+                .reader
+                .read(&mut self.segment, &mut self.reassembly, &piece[start..]);
+            start += call.taken;
+            assert!(
+                start <= piece.len() && calls > 0,
+                "a call took too much, or there is no end of answers"
+            );
+            calls -= 1;
+            match call.answer {
+                Answer::Envelope(which, place, reading) => {
+                    let bytes = judged::stream_part(which, &self.segment, &self.reassembly, place);
+                    heard.envelopes.push(plain(&bytes, &reading));
+                }
+                Answer::Leftover(n) => heard.leftovers += n,
+                Answer::Refused(number) => {
+                    heard.refused = Some(number);
+                    return heard;
+                }
+                Answer::More => return heard,
+            }
+        }
+    }
+}
