@@ -29,7 +29,7 @@ fn classes_of_stream(stream: &Stream, lent: &mut judge_streams::Lent) -> Vec<Str
     tally.classes()
 }
 
-pub fn print(seed: u64) {
+pub fn print(seed: u64) -> Result<(), String> {
     let (mut random, mut lent) = (Random::new(seed), judge_streams::Lent::new());
     let (mut of_bytes, mut of_streams) = (BTreeMap::new(), BTreeMap::new());
     for k in 0..30_000 {
@@ -73,4 +73,5 @@ pub fn print(seed: u64) {
             hex(&least.bytes())
         );
     }
+    Ok(())
 }

@@ -14,7 +14,7 @@ fn number(kind: Notation, bytes: &[u8]) -> Outcome<(u64, usize)> {
     }
 }
 
-fn part(kind: Notation, bytes: &[u8]) -> Outcome<(Option<Vec<u8>>, usize)> {
+pub fn part(kind: Notation, bytes: &[u8]) -> Outcome<(Option<Vec<u8>>, usize)> {
     match judged::notation(kind, bytes, 0) {
         (Noted::Null, next) if faults::is(11) => Outcome::Gave((Some(vec![]), next)),
         (Noted::Null, next) => Outcome::Gave((None, next)),

@@ -3,6 +3,7 @@
 #[path = "../../host/src/judged.rs"]
 mod judged;
 
+mod ask;
 mod classes;
 mod envelopes;
 mod exhaustive;
@@ -28,7 +29,11 @@ use tally::Tally;
 
 type Verdict = Result<(), String>;
 
-const USAGE: &str = "judge compare STREAMS ENVELOPES SEED | judge faults SEED | judge classes SEED | judge record SEED QUESTIONS ANSWERS";
+const USAGE: &str = "judge compare STREAMS ENVELOPES SEED
+judge faults SEED
+judge classes SEED
+judge ask KIND BYTE ..
+judge record SEED QUESTIONS ANSWERS";
 
 /// How often something is wrong in an input: never, seldom, often.
 fn faults_of(k: usize) -> Faults {
@@ -254,59 +259,46 @@ fn find_fault(seed: u64) -> Verdict {
     Ok(())
 }
 
-fn number(word: &str) -> u64 {
-    word.parse()
-        .unwrap_or_else(|_| panic!("{word} is no number"))
+fn number(word: &str) -> Result<u64, String> {
+    word.parse().map_err(|_| format!("{word} is no number"))
+}
+
+fn compare_and_print(streams: &str, envelopes: &str, seed: &str) -> Verdict {
+    let (streams, envelopes, mut tally) = (number(streams)?, number(envelopes)?, Tally::default());
+    let verdict = compare(
+        streams as usize,
+        envelopes as usize,
+        number(seed)?,
+        &mut tally,
+    );
+    tally.print();
+    verdict
+}
+
+fn run(words: &[&str]) -> Verdict {
+    match words {
+        ["compare", streams, envelopes, seed] => compare_and_print(streams, envelopes, seed),
+        ["faults", seed] => find_faults(number(seed)?),
+        ["classes", seed] => classes::print(number(seed)?),
+        ["ask", kind, bytes @ ..] => ask::ask(kind, bytes),
+        ["record", seed, questions, answers] => record::record(number(seed)?, questions, answers),
+        _ => Err(USAGE.to_string()),
+    }
 }
 
 fn main() {
-    let build = if theirs::CHECKED {
-        "with overflow checks"
-    } else {
-        "without overflow checks"
-    };
+    // A panic of the Rust is an answer.
+    std::panic::set_hook(Box::new(|_| {}));
     let words: Vec<String> = std::env::args().skip(1).collect();
     let words: Vec<&str> = words.iter().map(|word| word.as_str()).collect();
-    let mut tally = Tally::default();
-    let verdict = match words[..] {
-        ["compare", streams, envelopes, seed] => {
-            let arguments = [streams, envelopes, seed].map(number);
-            std::panic::set_hook(Box::new(|_| {}));
-            compare(
-                arguments[0] as usize,
-                arguments[1] as usize,
-                arguments[2],
-                &mut tally,
-            )
-        }
-        ["faults", seed] => {
-            let seed = number(seed);
-            std::panic::set_hook(Box::new(|_| {}));
-            find_faults(seed)
-        }
-        ["classes", seed] => {
-            let seed = number(seed);
-            std::panic::set_hook(Box::new(|_| {}));
-            classes::print(seed);
-            Ok(())
-        }
-        ["record", seed, questions, answers] => {
-            let seed = number(seed);
-            std::panic::set_hook(Box::new(|_| {}));
-            record::record(seed, questions, answers)
-        }
-        _ => Err(USAGE.to_string()),
-    };
-    if words.first() == Some(&"compare") {
-        tally.print();
-    }
-    match verdict {
-        Ok(()) if words.first() == Some(&"compare") => {
-            println!("no difference from the Rust {build}")
+    let build = if theirs::CHECKED { "with" } else { "without" };
+    match run(&words) {
+        Ok(()) if words[0] == "compare" => {
+            println!("no difference from the Rust {build} overflow checks")
         }
         Ok(()) => {}
-        Err(difference) => {
-            println!("DIFFERENCE from the Rust {build}: {difference}");
+        Err(why) => {
+            println!("the Rust {build} overflow checks: {why}");
             std::process::exit(1);
         }
     }

@@ -103,10 +103,11 @@ impl Stream {
                 .reader
                 .read(&mut self.segment, &mut self.reassembly, &piece[start..]);
             start += call.taken;
-            assert!(
-                start <= piece.len() && calls > 0,
-                "a call took too much, or there is no end of answers"
-            );
+            // Too much taken, or no end of answers: a refusal that there is not shows as a difference.
+            if start > piece.len() || calls == 0 {
+                heard.refused = Some(u8::MAX);
+                return heard;
+            }
             calls -= 1;
             match call.answer {
                 Answer::Envelope(which, place, reading) => {
