@@ -1,5 +1,5 @@
-"""What the scripts share that ask the Rust original: the cases of the program `segments` that it can judge, and its answers in the program's
-words. The Rust has no room that ends and no refusals, so a case for it has the short form and room enough."""
+"""What the scripts share that ask the Rust original: the cases of host/stored/segments that it can judge, and its answers in the words of
+those. The Rust has no room that ends and no refusals, so a case for it has the short form and room enough."""
 import random
 import subprocess
 
@@ -61,7 +61,7 @@ class Original:
         return self.pack(int(room), parts) if name == "pack" else self.split(int(room), parts[0])
 
 
-# The output that the program lends is ee where nothing is written.
+# The output that a case lends is ee where nothing is written.
 def filled(segment, room):
     return spell(segment + b"\xee" * (room - len(segment)))
 
