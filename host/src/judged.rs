@@ -65,6 +65,14 @@ mod exported {
             said: *mut usize,
             words: usize,
         );
+        pub fn judged_next_warning(
+            bytes: *const u8,
+            len: usize,
+            left: u16,
+            at: usize,
+            said: *mut usize,
+            words: usize,
+        );
         pub fn judged_part(
             bytes: *const u8,
             bytes_len: usize,
@@ -533,10 +541,28 @@ pub enum Walked {
     Refused(u8),
 }
 
-pub fn next_string(bytes: &[u8], walk: Walk) -> Walked {
+fn walked(said: &Said) -> Walked {
+    let place = Place {
+        start: said[1],
+        len: said[2],
+    };
+    let rest = Walk {
+        left: said[4] as u16,
+        at: said[3],
+    };
+    match said[0] {
+        0 => Walked::Refused(said[1] as u8),
+        2 => Walked::Text(place, rest),
+        _ => Walked::End(said[3]),
+    }
+}
+
+type Next = unsafe extern "C" fn(*const u8, usize, u16, usize, *mut usize, usize);
+
+fn next_by(call: Next, bytes: &[u8], walk: Walk) -> Walked {
     let mut said: Said = [0; 16];
     unsafe {
-        judged_next(
+        call(
             bytes.as_ptr(),
             bytes.len(),
             walk.left,
@@ -545,20 +571,15 @@ pub fn next_string(bytes: &[u8], walk: Walk) -> Walked {
             said.len(),
         )
     };
-    match said[0] {
-        0 => Walked::Refused(said[1] as u8),
-        2 => Walked::Text(
-            Place {
-                start: said[1],
-                len: said[2],
-            },
-            Walk {
-                left: said[4] as u16,
-                at: said[3],
-            },
-        ),
-        _ => Walked::End(said[3]),
-    }
+    walked(&said)
+}
+
+pub fn next_string(bytes: &[u8], walk: Walk) -> Walked {
+    next_by(judged_next, bytes, walk)
+}
+
+pub fn next_warning(bytes: &[u8], walk: Walk) -> Walked {
+    next_by(judged_next_warning, bytes, walk)
 }
 
 pub fn part(bytes: &[u8], place: Place) -> Vec<u8> {
