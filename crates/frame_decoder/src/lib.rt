@@ -3,9 +3,9 @@
 ghost use mathlib.Core.Path.{_≡_};
 ghost use Rattle.types.specs.Paper.{placeOf};
 ghost use Rattle.segment.specs.Paper.{paperForm};
-ghost use Rattle.frame_decoder.specs.Reader.{fresh, bytesAt, held};
+ghost use Rattle.frame_decoder.specs.Reader.{keeping, inPhase, fresh, bytesAt, held};
 ghost use Rattle.frame_decoder.specs.Call.{call};
-ghost use Rattle.frame_decoder.specs.Paper.{paperReader, paperBuffer, paperHeard, paperStep};
+ghost use Rattle.frame_decoder.specs.Paper.{paperPhase, paperReader, paperBuffer, paperHeard, paperStep};
 use frame::Envelope;
 use refusal::Refusal;
 use segment::Form;
@@ -105,6 +105,33 @@ impl Reader {
             pending: 0,
             phase,
         }
+    }
+
+    pub(crate) fn in_phase(self, phase: Phase) -> Reader
+        ensures { λ r. ⌜ paperReader r ≡ inPhase (paperReader self) (paperPhase phase) ⌝ }
+    {
+        let form = self.form;
+        Reader {
+            form,
+            segment_len: self.segment_len,
+            reassembly_len: self.reassembly_len,
+            pending: self.pending,
+            phase,
+        }
+    }
+
+    fn with_pending(mut self, pending: usize) -> Reader
+        ensures { λ r. ⌜ paperReader r ≡ keeping (paperReader self) pending (paperPhase (self .phase)) ⌝ }
+    {
+        self.pending = pending;
+        self
+    }
+
+    pub(crate) fn kept(self, pending: usize, phase: Phase) -> Reader
+        ensures { λ r. ⌜ paperReader r ≡ keeping (paperReader self) pending (paperPhase phase) ⌝ }
+    {
+        let next = self.in_phase(phase);
+        next.with_pending(pending)
     }
 
     // How many bytes are held: those of an unfinished segment, and those pending.

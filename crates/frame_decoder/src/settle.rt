@@ -11,9 +11,8 @@ ghost use Rattle.segment.specs.LittleEndian.{le};
 ghost use Rattle.segment.specs.Header.{headerLength, header as fieldsAre};
 ghost use Rattle.segment.specs.Segment.{trailerLength, segmentLength, headerAt, payloadAt};
 ghost use Rattle.segment.specs.Paper.{paperForm, paperHeader};
-ghost use Rattle.frame_decoder.specs.Reader.{keeping, inPhase};
 ghost use Rattle.frame_decoder.specs.Settle.{settled, refusing, headerDue, leftoverDue, readSegment, movedDown, readPending, readJoined, segmentDue, settle};
-ghost use Rattle.frame_decoder.specs.Paper.{paperPhase, paperReader};
+ghost use Rattle.frame_decoder.specs.Paper.{paperReader};
 ghost use Rattle.frame_decoder.specs.Inside.{paperDue, Admitted};
 use crate::Answer;
 use crate::Buffer;
@@ -38,31 +37,11 @@ pub(crate) enum Due {
     Waits(Reader),
 }
 
-fn kept(m: Reader, pending: usize, phase: Phase) -> Reader
-    ensures { λ r. ⌜ paperReader r ≡ keeping (paperReader m) pending (paperPhase phase) ⌝ }
-{
-    let form = m.form;
-    Reader {
-        form,
-        segment_len: m.segment_len,
-        reassembly_len: m.reassembly_len,
-        pending,
-        phase,
-    }
-}
-
-pub(crate) fn in_phase(m: Reader, phase: Phase) -> Reader
-    ensures { λ r. ⌜ paperReader r ≡ inPhase (paperReader m) (paperPhase phase) ⌝ }
-{
-    let pending = m.pending;
-    kept(m, pending, phase)
-}
-
 // Any refusal stops the reader.
 fn refuse(m: Reader, e: Refusal) -> Due
     ensures { λ r. ⌜ paperDue r ≡ refusing (numberOf e) (paperReader m) ⌝ }
 {
-    let reader = in_phase(m, Phase::Stopped(e));
+    let reader = m.in_phase(Phase::Stopped(e));
     Due::Answered(Answer::Refused(e), reader)
 }
 
@@ -80,7 +59,7 @@ fn passed(m: Reader, filled: usize, room: usize, header: Header) -> Due
             len,
             self_contained,
         };
-        let reader = in_phase(m, phase);
+        let reader = m.in_phase(phase);
         return Due::Waits(reader);
     }
     refuse(m, Refusal::SegmentTooLong)
@@ -103,7 +82,7 @@ fn header_due(m: Reader, segment: &[u8], filled: usize) -> Due
 fn left_over(m: Reader, n: usize) -> Due
     ensures { λ r. ⌜ paperDue r ≡ leftoverDue (paperReader m) n ⌝ }
 {
-    let reader = in_phase(m, Phase::Header { filled: 0 });
+    let reader = m.in_phase(Phase::Header { filled: 0 });
     if n == 0 {
         return Due::Waits(reader);
     }
@@ -128,7 +107,7 @@ fn from_segment(m: Reader, segment: &[u8], len: usize, at: usize) -> Due
     };
     let size = envelope.size;
     let next = at + size;
-    let reader = in_phase(m, Phase::InSegment { len, at: next });
+    let reader = m.in_phase(Phase::InSegment { len, at: next });
     let place = Place { start, len: size };
     Due::Answered(Answer::Envelope(Buffer::Segment, place, envelope), reader)
 }
@@ -162,12 +141,12 @@ fn from_pending(m: Reader, reassembly: &mut [u8], at: usize) -> Due
     let Reading::Whole(envelope) = reading else {
         let unread = end - at;
         move_down(reassembly, at, unread);
-        let waiting = kept(m, unread, Phase::Header { filled: 0 });
+        let waiting = m.kept(unread, Phase::Header { filled: 0 });
         return Due::Waits(waiting);
     };
     let size = envelope.size;
     let next = at + size;
-    let reader = in_phase(m, Phase::InReassembly { at: next });
+    let reader = m.in_phase(Phase::InReassembly { at: next });
     let place = Place {
         start: at,
         len: size,
@@ -198,7 +177,7 @@ fn append(m: Reader, payload: &[u8], reassembly: &mut [u8]) -> Due
     let len = payload.len();
     if len <= reassembly.len() - pending {
         put_bytes(&mut reassembly[pending..], 0, payload);
-        let joined = kept(m, pending + len, Phase::InReassembly { at: 0 });
+        let joined = m.kept(pending + len, Phase::InReassembly { at: 0 });
         return from_pending(joined, reassembly, 0);
     }
     refuse(m, Refusal::ReassemblyTooShort)

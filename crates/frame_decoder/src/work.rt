@@ -13,7 +13,6 @@ use crate::Phase;
 use crate::Reader;
 use crate::Step;
 use crate::settle::Due;
-use crate::settle::in_phase;
 use crate::settle::settle;
 use segment::TRAILER_LEN;
 use segment::header_len;
@@ -59,7 +58,7 @@ fn fill(m: Reader, segment: &mut [u8], bytes: &[u8]) -> Filled
             let end = header_len(form);
             let took = fill_up(segment, filled, end, bytes);
             let count = filled + took;
-            let reader = in_phase(m, Phase::Header { filled: count });
+            let reader = m.in_phase(Phase::Header { filled: count });
             Filled { reader, took }
         }
         Phase::Rest {
@@ -75,7 +74,7 @@ fn fill(m: Reader, segment: &mut [u8], bytes: &[u8]) -> Filled
                 len,
                 self_contained,
             };
-            let reader = in_phase(m, grown);
+            let reader = m.in_phase(grown);
             Filled { reader, took }
         }
         Phase::InSegment { len: _, at: _ } => Filled { reader: m, took: 0 },

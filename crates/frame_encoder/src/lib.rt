@@ -97,11 +97,11 @@ impl FrameEncoder {
     }
 
     // What was added is forgotten.
-    pub fn reset(self) -> FrameEncoder
+    pub fn reset(mut self) -> FrameEncoder
         ensures { λ r. ⌜ paperWriter r ≡ fresh (paperForm (self .form)) ⌝ }
     {
-        let same_form = self.form;
-        FrameEncoder::new(same_form)
+        self.payload = 0;
+        self
     }
 
     // 1, 16, 14.
