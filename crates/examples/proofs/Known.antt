@@ -1,4 +1,4 @@
--- The known bytes of docs/RULES.md, 13.2, as the definitions give them. Assumes nothing.
+-- The known bytes and checks of docs/RULES.md, 13.2 and 13.3, as the definitions give them. Assumes nothing.
 use Prim.Native.Nat.{ℕ}
 use mathlib.Core.Path.{_≡_, refl}
 use mathlib.Core.Bool.{true, false}
@@ -18,3 +18,11 @@ pub known :
     ∷ []
 unfolding segmentBytes headerBytes headerNumber numberOf leDigits crc24 byte24 shift24 crc32 common32 byte32 shift32 run times ifSet
 known = refl
+
+-- 13.3
+abbrev digits : List ℕ
+digits = 0x31 ∷ 0x32 ∷ 0x33 ∷ 0x34 ∷ 0x35 ∷ 0x36 ∷ 0x37 ∷ 0x38 ∷ 0x39 ∷ []
+
+pub known-checks : crc24 (0x00 ∷ 0x00 ∷ 0x02 ∷ []) ∷ crc24 digits ∷ crc32 [] ∷ crc32 (0x00 ∷ []) ∷ crc32 digits ∷ [] ≡ 0xc4366a ∷ 0x4b3f02 ∷ 0x44777ed3 ∷ 0xcd9c1b9d ∷ 0xe2a261a7 ∷ []
+unfolding crc24 byte24 shift24 crc32 common32 byte32 shift32 run times ifSet
+known-checks = refl

@@ -4,7 +4,6 @@ use mathlib.Core.Path.{_≡_, refl}
 use mathlib.Core.Bool.{true, false}
 use mathlib.Core.List.{List, [], _∷_, _++_, map}
 use lib.IntN.{pos, negsuc}
-use lib.ListN.{replicate}
 use Rattle.basis.specs.Front.{incomplete, refuses, whole}
 use Rattle.crc.specs.Fold.{run}
 use Rattle.crc.specs.Check24.{crc24}
@@ -18,7 +17,7 @@ use Rattle.frame.specs.Envelope.{declared, sized, sizeOf, afterId, warningsAt, 
 use Rattle.examples.specs.Example.{seen, Example, header-of, crc24-of, front-of, Shown, begins, check, reads, shown}
 
 -- whatever the fifteen bytes of P11 are
-pub examples : (x : ℕ) →
+pub examples : (b₁ b₂ b₃ b₄ b₅ b₆ b₇ b₈ b₉ b₁₀ b₁₁ b₁₂ b₁₃ b₁₄ b₁₅ : ℕ) →
     map shown
     (header-of short 0 true
     ∷ header-of short 131071 false
@@ -30,7 +29,7 @@ pub examples : (x : ℕ) →
     ∷ front-of (0x05 ∷ 0x00 ∷ 0x00 ∷ 0x01 ∷ 0x05 ∷ 0xff ∷ 0xff ∷ 0xff ∷ 0xff ∷ [])
     ∷ front-of (0x06 ∷ 0x00 ∷ 0x00 ∷ 0x01 ∷ 0x04 ∷ 0x00 ∷ 0x00 ∷ 0x00 ∷ 0x00 ∷ [])
     ∷ front-of (0x05 ∷ 0x00 ∷ 0x00 ∷ 0x01 ∷ 0x04 ∷ 0x00 ∷ 0x00 ∷ 0x00 ∷ 0x00 ∷ [])
-    ∷ front-of ((0x85 ∷ 0x02 ∷ 0x00 ∷ 0x01 ∷ 0x02 ∷ 0x00 ∷ 0x00 ∷ 0x00 ∷ 0x0f ∷ []) ++ replicate 15 x)
+    ∷ front-of ((0x85 ∷ 0x02 ∷ 0x00 ∷ 0x01 ∷ 0x02 ∷ 0x00 ∷ 0x00 ∷ 0x00 ∷ 0x0f ∷ []) ++ (b₁ ∷ b₂ ∷ b₃ ∷ b₄ ∷ b₅ ∷ b₆ ∷ b₇ ∷ b₈ ∷ b₉ ∷ b₁₀ ∷ b₁₁ ∷ b₁₂ ∷ b₁₃ ∷ b₁₄ ∷ b₁₅ ∷ []))
     ∷ front-of (0x85 ∷ 0x08 ∷ 0x00 ∷ 0x01 ∷ 0x02 ∷ 0x00 ∷ 0x00 ∷ 0x00 ∷ 0x05 ∷ 0x00 ∷ 0x01 ∷ 0x00 ∷ 0x01 ∷ 0x41 ∷ [])
     ∷ front-of (0x85 ∷ 0x08 ∷ 0x00 ∷ 0x01 ∷ 0x02 ∷ 0x00 ∷ 0x00 ∷ 0x00 ∷ 0x05 ∷ 0x00 ∷ 0x01 ∷ 0x00 ∷ 0x01 ∷ 0xff ∷ [])
     ∷ [])
@@ -88,4 +87,4 @@ pub examples : (x : ℕ) →
     ∷ reads (refuses 13)
     ∷ []
 unfolding shown seen envelope sizeOf sized declared headerOf knownVersion knownOpcode hasId hasWarnings afterId warningsAt within inside idIn bodyIn warningsIn be beFrom bytesIn numberAt runAt textAt stringAt stringsAt textsIn listed stringListAt utf8 after step begin leDigits numberOf headerNumber crc24 run
-examples x = refl
+examples b₁ b₂ b₃ b₄ b₅ b₆ b₇ b₈ b₉ b₁₀ b₁₁ b₁₂ b₁₃ b₁₄ b₁₅ = refl
