@@ -34,7 +34,7 @@ pub fn ask(kind: &str, words: &[&str]) -> Result<(), String> {
         "longstring" => both(judge_notations::part(Notation::LongString, bytes), theirs::long_string(bytes)),
         "short" => stream(Form::Short, bytes, crate::streams::SIZES),
         "long" => stream(Form::Long, bytes, crate::streams::SIZES),
-        "small" => stream(Form::Short, bytes, (12, 9)),
+        "small" => stream(Form::Short, bytes, (20, 9)),
         _ => return Err(format!("{kind} is none of envelope, size, list, bytes, shortbytes, longstring, short, long and small")),
     }
     Ok(())

@@ -5,7 +5,7 @@ use crate::random::Random;
 use crate::said::{hex, Outcome};
 use crate::streams::{Damage, Part, Stream, LARGEST, SIZES};
 use crate::tally::Tally;
-use crate::{faults, theirs};
+use crate::{faults, judge_envelopes, theirs};
 
 /// The fields that both sides can be given.
 #[derive(Clone, Debug)]
@@ -161,10 +161,14 @@ pub fn envelope(fields: &Fields, tally: &mut Tally) -> Result<(), String> {
         )
     };
     if ours == theirs {
-        if let Outcome::Refused(number) = ours {
-            tally.refused("envelopes written", number);
-        }
-        return Ok(());
+        return match &ours {
+            // What was written is read by both.
+            Outcome::Gave(bytes) => judge_envelopes::parse(bytes, tally),
+            _ => {
+                tally.refused("envelopes written", 15);
+                Ok(())
+            }
+        };
     }
     if let (Some(class), Outcome::Refused(15)) = (class(fields), &ours) {
         tally.outside("envelope written", class, shown);
