@@ -209,6 +209,21 @@ pub enum Parsed {
 
 type Said = [usize; 16];
 
+/// The words that a call says.
+fn said_by(call: impl FnOnce(*mut usize, usize)) -> Said {
+    let mut said = [0; 16];
+    call(said.as_mut_ptr(), said.len());
+    said
+}
+
+/// A part that a call copies out, at most so long.
+fn copied_by(room: usize, call: impl FnOnce(*mut u8, usize) -> usize) -> Vec<u8> {
+    let mut out = vec![0; room];
+    let n = call(out.as_mut_ptr(), out.len());
+    out.truncate(n);
+    out
+}
+
 fn reading(said: &Said) -> Reading {
     Reading {
         size: said[4],
@@ -229,6 +244,9 @@ fn reading(said: &Said) -> Reading {
     }
 }
 
+type PartCall =
+    unsafe extern "C" fn(*const u8, usize, *const usize, usize, *mut u8, usize) -> usize;
+
 impl Reading {
     fn words(&self) -> Said {
         let mut said = [0; 16];
@@ -241,37 +259,20 @@ impl Reading {
         said
     }
 
+    fn part_by(&self, call: PartCall, bytes: &[u8]) -> Vec<u8> {
+        let (b, words) = (bytes.as_ptr(), self.words());
+        let call =
+            |out, room| unsafe { call(b, bytes.len(), words.as_ptr(), words.len(), out, room) };
+        copied_by(bytes.len(), call)
+    }
+
     /// The body of this envelope, asked of these bytes.
     pub fn body(&self, bytes: &[u8]) -> Vec<u8> {
-        let (said, mut out) = (self.words(), vec![0; bytes.len()]);
-        let n = unsafe {
-            judged_body(
-                bytes.as_ptr(),
-                bytes.len(),
-                said.as_ptr(),
-                said.len(),
-                out.as_mut_ptr(),
-                out.len(),
-            )
-        };
-        out.truncate(n);
-        out
+        self.part_by(judged_body, bytes)
     }
 
     pub fn tracing_id(&self, bytes: &[u8]) -> Vec<u8> {
-        let (said, mut out) = (self.words(), vec![0; bytes.len()]);
-        let n = unsafe {
-            judged_tracing_id(
-                bytes.as_ptr(),
-                bytes.len(),
-                said.as_ptr(),
-                said.len(),
-                out.as_mut_ptr(),
-                out.len(),
-            )
-        };
-        out.truncate(n);
-        out
+        self.part_by(judged_tracing_id, bytes)
     }
 }
 
@@ -292,8 +293,7 @@ pub fn is_utf8(bytes: &[u8]) -> bool {
 }
 
 pub fn parse(bytes: &[u8]) -> Parsed {
-    let mut said: Said = [0; 16];
-    unsafe { judged_parse(bytes.as_ptr(), bytes.len(), said.as_mut_ptr(), said.len()) };
+    let said = said_by(|said, n| unsafe { judged_parse(bytes.as_ptr(), bytes.len(), said, n) });
     match said[0] {
         0 => Parsed::Incomplete,
         1 => Parsed::Whole(reading(&said)),
@@ -463,22 +463,12 @@ fn buffer(word: usize) -> Buffer {
 
 /// What the reader hands back for a place.
 pub fn stream_part(which: Buffer, segment: &[u8], reassembly: &[u8], place: Place) -> Vec<u8> {
-    let mut out = vec![0; place.len.min(segment.len().max(reassembly.len()))];
-    let n = unsafe {
-        judged_stream_part(
-            which as usize,
-            segment.as_ptr(),
-            segment.len(),
-            reassembly.as_ptr(),
-            reassembly.len(),
-            place.start,
-            place.len,
-            out.as_mut_ptr(),
-            out.len(),
-        )
-    };
-    out.truncate(n);
-    out
+    let (s, r) = (segment.as_ptr(), reassembly.as_ptr());
+    let (s_len, r_len) = (segment.len(), reassembly.len());
+    let (which, Place { start, len }) = (which as usize, place);
+    let call =
+        |out, room| unsafe { judged_stream_part(which, s, s_len, r, r_len, start, len, out, room) };
+    copied_by(len.min(s_len.max(r_len)), call)
 }
 
 #[derive(Clone, Copy, Debug, PartialEq, Eq)]
@@ -507,17 +497,8 @@ pub enum Noted {
 
 /// What stands there in this notation, and where it ends; a refusal ends at 0.
 pub fn notation(kind: Notation, bytes: &[u8], at: usize) -> (Noted, usize) {
-    let mut said: Said = [0; 16];
-    unsafe {
-        judged_notation(
-            kind as usize,
-            bytes.as_ptr(),
-            bytes.len(),
-            at,
-            said.as_mut_ptr(),
-            said.len(),
-        )
-    };
+    let (b, len) = (bytes.as_ptr(), bytes.len());
+    let said = said_by(|said, n| unsafe { judged_notation(kind as usize, b, len, at, said, n) });
     let noted = match said[0] {
         0 => Noted::Refused(said[1] as u8),
         1 => Noted::Value(said[1] as u64),
@@ -560,18 +541,10 @@ fn walked(said: &Said) -> Walked {
 type Next = unsafe extern "C" fn(*const u8, usize, u16, usize, *mut usize, usize);
 
 fn next_by(call: Next, bytes: &[u8], walk: Walk) -> Walked {
-    let mut said: Said = [0; 16];
-    unsafe {
-        call(
-            bytes.as_ptr(),
-            bytes.len(),
-            walk.left,
-            walk.at,
-            said.as_mut_ptr(),
-            said.len(),
-        )
-    };
-    walked(&said)
+    let (b, len) = (bytes.as_ptr(), bytes.len());
+    walked(&said_by(|said, n| unsafe {
+        call(b, len, walk.left, walk.at, said, n)
+    }))
 }
 
 pub fn next_string(bytes: &[u8], walk: Walk) -> Walked {
@@ -583,19 +556,9 @@ pub fn next_warning(bytes: &[u8], walk: Walk) -> Walked {
 }
 
 pub fn part(bytes: &[u8], place: Place) -> Vec<u8> {
-    let mut out = vec![0; place.len.min(bytes.len())];
-    let n = unsafe {
-        judged_part(
-            bytes.as_ptr(),
-            bytes.len(),
-            place.start,
-            place.len,
-            out.as_mut_ptr(),
-            out.len(),
-        )
-    };
-    out.truncate(n);
-    out
+    let (b, n) = (bytes.as_ptr(), bytes.len());
+    let call = |out, room| unsafe { judged_part(b, n, place.start, place.len, out, room) };
+    copied_by(place.len.min(n), call)
 }
 
 /// Where the bytes written end, or the number of the refusal.
@@ -611,37 +574,19 @@ fn written(said: &Said) -> Written {
 
 /// A [byte], [short], [int] or [long], from the lowest bits.
 pub fn write_number(kind: Notation, out: &mut [u8], at: usize, bits: u64) -> Written {
-    let mut said: Said = [0; 16];
-    unsafe {
-        judged_write_number(
-            kind as usize,
-            out.as_mut_ptr(),
-            out.len(),
-            at,
-            bits,
-            said.as_mut_ptr(),
-            said.len(),
-        )
-    };
-    written(&said)
+    let (o, room, kind) = (out.as_mut_ptr(), out.len(), kind as usize);
+    written(&said_by(|said, n| unsafe {
+        judged_write_number(kind, o, room, at, bits, said, n)
+    }))
 }
 
 /// A [uuid], [short bytes], [string], [long string] or [bytes].
 pub fn write_bytes(kind: Notation, out: &mut [u8], at: usize, bytes: &[u8]) -> Written {
-    let mut said: Said = [0; 16];
-    unsafe {
-        judged_write_bytes(
-            kind as usize,
-            out.as_mut_ptr(),
-            out.len(),
-            at,
-            bytes.as_ptr(),
-            bytes.len(),
-            said.as_mut_ptr(),
-            said.len(),
-        )
-    };
-    written(&said)
+    let (o, room, kind) = (out.as_mut_ptr(), out.len(), kind as usize);
+    let (b, len) = (bytes.as_ptr(), bytes.len());
+    written(&said_by(|said, n| unsafe {
+        judged_write_bytes(kind, o, room, at, b, len, said, n)
+    }))
 }
 
 pub fn write_null(out: &mut [u8], at: usize) -> Written {
@@ -649,21 +594,11 @@ pub fn write_null(out: &mut [u8], at: usize) -> Written {
 }
 
 pub fn write_list(out: &mut [u8], at: usize, text: &[u8], lens: &[usize]) -> Written {
-    let mut said: Said = [0; 16];
-    unsafe {
-        judged_write_list(
-            out.as_mut_ptr(),
-            out.len(),
-            at,
-            text.as_ptr(),
-            text.len(),
-            lens.as_ptr(),
-            lens.len(),
-            said.as_mut_ptr(),
-            said.len(),
-        )
-    };
-    written(&said)
+    let (o, room) = (out.as_mut_ptr(), out.len());
+    let (t, len, l, count) = (text.as_ptr(), text.len(), lens.as_ptr(), lens.len());
+    written(&said_by(|said, n| unsafe {
+        judged_write_list(o, room, at, t, len, l, count, said, n)
+    }))
 }
 
 #[derive(Clone, Copy, Debug, PartialEq, Eq)]
@@ -763,56 +698,36 @@ impl Encoder {
         self.put(words);
     }
 
-    pub fn add(&mut self, out: &mut [u8], envelope: &[u8]) -> Encoded {
-        let (mut words, mut said) = (self.words(), [0; 16]);
-        unsafe {
-            judged_add(
-                words.as_mut_ptr(),
-                words.len(),
-                out.as_mut_ptr(),
-                out.len(),
-                envelope.as_ptr(),
-                envelope.len(),
-                said.as_mut_ptr(),
-                said.len(),
-            )
-        };
+    /// A call on this writer and an output, which leaves the next writer.
+    fn call(
+        &mut self,
+        out: &mut [u8],
+        call: impl FnOnce(*mut usize, usize, *mut u8, usize, *mut usize, usize),
+    ) -> Encoded {
+        let (mut words, o, room) = (self.words(), out.as_mut_ptr(), out.len());
+        let said = said_by(|said, n| call(words.as_mut_ptr(), words.len(), o, room, said, n));
         self.put(words);
         encoded(&said)
+    }
+
+    pub fn add(&mut self, out: &mut [u8], envelope: &[u8]) -> Encoded {
+        let (e, len) = (envelope.as_ptr(), envelope.len());
+        self.call(out, |w, k, o, room, said, n| unsafe {
+            judged_add(w, k, o, room, e, len, said, n)
+        })
     }
 
     pub fn finish(&mut self, out: &mut [u8]) -> Encoded {
-        let (mut words, mut said) = (self.words(), [0; 16]);
-        unsafe {
-            judged_finish(
-                words.as_mut_ptr(),
-                words.len(),
-                out.as_mut_ptr(),
-                out.len(),
-                said.as_mut_ptr(),
-                said.len(),
-            )
-        };
-        self.put(words);
-        encoded(&said)
+        self.call(out, |w, k, o, room, said, n| unsafe {
+            judged_finish(w, k, o, room, said, n)
+        })
     }
 
     pub fn piece(&mut self, out: &mut [u8], envelope: &[u8]) -> Encoded {
-        let (mut words, mut said) = (self.words(), [0; 16]);
-        unsafe {
-            judged_piece(
-                words.as_mut_ptr(),
-                words.len(),
-                out.as_mut_ptr(),
-                out.len(),
-                envelope.as_ptr(),
-                envelope.len(),
-                said.as_mut_ptr(),
-                said.len(),
-            )
-        };
-        self.put(words);
-        encoded(&said)
+        let (e, len) = (envelope.as_ptr(), envelope.len());
+        self.call(out, |w, k, o, room, said, n| unsafe {
+            judged_piece(w, k, o, room, e, len, said, n)
+        })
     }
 }
 
@@ -828,16 +743,8 @@ pub enum Head {
 }
 
 pub fn read_header(form: Form, bytes: &[u8]) -> Head {
-    let mut said: Said = [0; 16];
-    unsafe {
-        judged_header(
-            form as usize,
-            bytes.as_ptr(),
-            bytes.len(),
-            said.as_mut_ptr(),
-            said.len(),
-        )
-    };
+    let (b, len) = (bytes.as_ptr(), bytes.len());
+    let said = said_by(|said, n| unsafe { judged_header(form as usize, b, len, said, n) });
     match said[0] {
         0 => Head::Incomplete,
         1 => Head::Whole {

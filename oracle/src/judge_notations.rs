@@ -73,27 +73,27 @@ fn class<T: Debug>(
 }
 
 pub fn numbers(bytes: &[u8], tally: &mut Tally) -> Result<(), String> {
-    same(
-        "[short] read",
-        bytes,
-        number(Notation::Short, bytes),
-        mapped(theirs::short(bytes), |x| x as u16 as u64),
-        tally,
-    )?;
-    same(
-        "[int] read",
-        bytes,
-        number(Notation::Int, bytes),
-        mapped(theirs::int(bytes), |x| x as u32 as u64),
-        tally,
-    )?;
-    same(
-        "[long] read",
-        bytes,
-        number(Notation::Long, bytes),
-        mapped(theirs::long(bytes), |x| x as u64),
-        tally,
-    )
+    let all = [
+        (
+            "[short] read",
+            Notation::Short,
+            mapped(theirs::short(bytes), |x| x as u16 as u64),
+        ),
+        (
+            "[int] read",
+            Notation::Int,
+            mapped(theirs::int(bytes), |x| x as u32 as u64),
+        ),
+        (
+            "[long] read",
+            Notation::Long,
+            mapped(theirs::long(bytes), |x| x as u64),
+        ),
+    ];
+    for (what, kind, theirs) in all {
+        same(what, bytes, number(kind, bytes), theirs, tally)?;
+    }
+    Ok(())
 }
 
 pub fn list(bytes: &[u8], tally: &mut Tally) -> Result<(), String> {
@@ -231,17 +231,10 @@ fn wrapped(bytes: &[u8]) -> Vec<u8> {
 
 pub fn write_bytes(bytes: &[u8], tally: &mut Tally) -> Result<(), String> {
     let room = bytes.len() + 10;
-    let long = written(room, |out| {
-        judged::write_bytes(Notation::Bytes, out, 0, bytes)
-    });
-    same(
-        "[bytes] written",
-        bytes,
-        long,
-        Outcome::Gave(theirs::write_bytes(Some(bytes))),
-        tally,
-    )?;
+    let part = |kind| written(room, |out| judged::write_bytes(kind, out, 0, bytes));
     let null = written(room, |out| judged::write_null(out, 0));
+    let long = Outcome::Gave(theirs::write_bytes(Some(bytes)));
+    same("[bytes] written", bytes, part(Notation::Bytes), long, tally)?;
     same(
         "null written",
         bytes,
@@ -250,9 +243,7 @@ pub fn write_bytes(bytes: &[u8], tally: &mut Tally) -> Result<(), String> {
         tally,
     )?;
     let (ours, theirs) = (
-        written(room, |out| {
-            judged::write_bytes(Notation::ShortBytes, out, 0, bytes)
-        }),
+        part(Notation::ShortBytes),
         Outcome::Gave(theirs::write_short_bytes(bytes)),
     );
     if bytes.len() <= 65_535 {
@@ -270,27 +261,26 @@ pub fn write_bytes(bytes: &[u8], tally: &mut Tally) -> Result<(), String> {
 }
 
 pub fn write_numbers(bits: u64, tally: &mut Tally) -> Result<(), String> {
-    let ours = |kind| written(20, |out| judged::write_number(kind, out, 0, bits));
-    let shown = bits.to_be_bytes();
-    same(
-        "[short] written",
-        &shown,
-        ours(Notation::Short),
-        Outcome::Gave(theirs::write_short(bits as u16)),
-        tally,
-    )?;
-    same(
-        "[int] written",
-        &shown,
-        ours(Notation::Int),
-        Outcome::Gave(theirs::write_int(bits as i32)),
-        tally,
-    )?;
-    same(
-        "[long] written",
-        &shown,
-        ours(Notation::Long),
-        Outcome::Gave(theirs::write_long(bits as i64)),
-        tally,
-    )
+    let all = [
+        (
+            "[short] written",
+            Notation::Short,
+            theirs::write_short(bits as u16),
+        ),
+        (
+            "[int] written",
+            Notation::Int,
+            theirs::write_int(bits as i32),
+        ),
+        (
+            "[long] written",
+            Notation::Long,
+            theirs::write_long(bits as i64),
+        ),
+    ];
+    for (what, kind, bytes) in all {
+        let ours = written(20, |out| judged::write_number(kind, out, 0, bits));
+        same(what, &bits.to_be_bytes(), ours, Outcome::Gave(bytes), tally)?;
+    }
+    Ok(())
 }
