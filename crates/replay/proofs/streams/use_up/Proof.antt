@@ -1,0 +1,33 @@
+-- `replay::streams::use_up` is safe and ends: the turns fall, and no call changes a buffer's length. Assumes nothing.
+use mathlib.Core.Path.{_≡_}
+use borrow.Author.Needs.{needs}
+use native.Mathlib.Omega.{arith}
+use lib.ListN.{length}
+use Rattle.replay.proofs.streams.use_up.Statement.{statement}
+use Rattle.replay.proofs.streams.use_up.Tie as tie
+
+abbrev Inv-loop : tie.InvT-loop
+Inv-loop segment₀ reassembly₀ bytes run₀ turns₀ segment reassembly run turns =
+    (length segment ≡ length segment₀) × (length reassembly ≡ length reassembly₀)
+
+abbrev μ-loop : tie.MeasureT-loop
+μ-loop segment₀ reassembly₀ bytes run₀ turns₀ segment reassembly run turns = turns
+
+pub use-up-spec : {M : Type 1} → statement M
+use-up-spec =
+    tie.close
+    (tie.spec
+    Inv-loop
+    μ-loop
+    (λ c. search needs)
+    (λ c. omega arith)
+    (λ c κs. tt)
+    (λ c κs. tt)
+    (λ c. search needs)
+    (λ c. search needs)
+    (λ c. tt)
+    (λ c. omega arith)
+    (λ c. search needs)
+    (λ c. search needs)
+    (λ c. search needs)
+    (λ c. tt))

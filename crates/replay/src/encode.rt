@@ -1,0 +1,104 @@
+// The case that writes an envelope. The words are read one to a function, so that none holds all of them.
+use crate::asked;
+use crate::outcome;
+use crate::room;
+use cases::words;
+use frame::Direction;
+use frame::Header;
+use frame::write;
+use types::number;
+
+fn is_header(line: &[u8]) -> bool {
+    if 255 < asked::number(line, 1) {
+        return false;
+    }
+    if 1 < words::index(b"req rsp", words::field(line, b' ', 2)) {
+        return false;
+    }
+    if 255 < asked::hex(line, 3) {
+        return false;
+    }
+    if 65_535 < asked::bits(line, 4) {
+        return false;
+    }
+    asked::hex(line, 5) < 256
+}
+
+fn byte(n: usize) -> u8 {
+    (n % 256) as u8
+}
+
+fn stream(bits: usize) -> i16 {
+    number::signed16((bits % 65_536) as u16)
+}
+
+fn way(word: &[u8]) -> Direction {
+    if words::same(word, b"req") {
+        return Direction::Request;
+    }
+    Direction::Response
+}
+
+fn header(line: &[u8]) -> Header {
+    let direction = way(words::field(line, b' ', 2));
+    Header {
+        version: byte(asked::number(line, 1)),
+        direction,
+        flags: byte(asked::hex(line, 3)),
+        stream: stream(asked::bits(line, 4)),
+        opcode: byte(asked::hex(line, 5)),
+    }
+}
+
+fn write_asked(line: &[u8], id: &[u8], text: &[u8], lens: &[usize], body: &[u8]) {
+    let mut out = room::out();
+    let answer = write::write_envelope(&mut out, header(line), id, text, lens, body);
+    outcome::written(answer, &out);
+}
+
+fn with_body(line: &[u8], id: &[u8], text: &[u8], body: &[u8]) -> bool {
+    let mut items = room::items();
+    let n = asked::lengths(line, 8, &mut items);
+    if asked::MOST < n {
+        return false;
+    }
+    write_asked(line, id, text, words::front_items(&items, n), body);
+    true
+}
+
+fn with_text(line: &[u8], id: &[u8], text: &[u8]) -> bool {
+    let mut body = room::bytes();
+    let n = asked::bytes(line, 9, &mut body);
+    if asked::MOST < n {
+        return false;
+    }
+    with_body(line, id, text, words::front(&body, n))
+}
+
+fn with_id(line: &[u8], id: &[u8]) -> bool {
+    let mut text = room::bytes();
+    let n = asked::bytes(line, 7, &mut text);
+    if asked::MOST < n {
+        return false;
+    }
+    with_text(line, id, words::front(&text, n))
+}
+
+fn with_header(line: &[u8]) -> bool {
+    let mut id = room::bytes();
+    let n = asked::bytes(line, 6, &mut id);
+    if asked::MOST < n {
+        return false;
+    }
+    with_id(line, words::front(&id, n))
+}
+
+pub fn answer(line: &[u8]) -> bool {
+    if words::same(words::field(line, b' ', 0), b"encode") {
+        if is_header(line) {
+            return with_header(line);
+        }
+        return false;
+    }
+    false
+}

@@ -1,0 +1,73 @@
+// Answers what each line of standard input asks, a line for a line. README.md beside src/ has the shapes of a line.
+use cases::say;
+use cases::words;
+use libc::STDIN_FILENO;
+
+mod asked;
+mod encode;
+mod envelope;
+mod notations;
+mod outcome;
+mod room;
+mod segments;
+mod streams;
+mod writes;
+
+// Each list of names is short, so that no function has many cases.
+fn answer_bytes(name: &[u8], bytes: &[u8]) -> bool {
+    if envelope::answer(name, bytes) {
+        return true;
+    }
+    if notations::answer(name, bytes) {
+        return true;
+    }
+    writes::answer(name, bytes)
+}
+
+// A name and some bytes.
+fn answer_two(line: &[u8]) -> bool {
+    let mut bytes = room::bytes();
+    let n = asked::bytes(line, 1, &mut bytes);
+    if asked::MOST < n {
+        return false;
+    }
+    answer_bytes(words::field(line, b' ', 0), words::front(&bytes, n))
+}
+
+// A name, a word, and some bytes.
+fn answer_three(line: &[u8]) -> bool {
+    let mut bytes = room::bytes();
+    let n = asked::bytes(line, 2, &mut bytes);
+    if asked::MOST < n {
+        return false;
+    }
+    if words::same(words::field(line, b' ', 0), b"pack") {
+        return segments::pack(line, words::front(&bytes, n));
+    }
+    streams::answer(line, words::front(&bytes, n))
+}
+
+// Whether the line was a case.
+fn answer(line: &[u8]) -> bool {
+    match words::count(line, b' ') {
+        1 => answer_two(line),
+        2 => answer_three(line),
+        9 => encode::answer(line),
+        _ => false,
+    }
+}
+
+fn answer_all(input: &[u8]) {
+    let mut start: usize = 0;
+    while start < input.len() {
+        let line = words::line(input, start);
+        say::end_line(answer(line));
+        start += line.len() + 1;
+    }
+}
+
+fn main() {
+    let mut input = room::input();
+    let n = io::read_full(STDIN_FILENO, &mut input);
+    answer_all(words::front(&input, n));
+}
