@@ -114,9 +114,9 @@ fn said<'a>(step: Step, cursor: Cursor, segment: &'a [u8], reassembly: &'a [u8])
 }
 
 // So many calls are enough for any stream here: the largest payload has 14,563 envelopes.
-fn use_up(fresh: Reader, first: Cursor, segment: &mut [u8], reassembly: &mut [u8], bytes: &[u8]) {
-    let mut reader = fresh;
-    let mut cursor = first;
+fn use_up(form: Form, cut: usize, segment: &mut [u8], reassembly: &mut [u8], bytes: &[u8]) {
+    let mut reader = Reader::new(form, 131_083, 262_144);
+    let mut cursor = first_piece(cut);
     let mut turns: usize = 200_000;
     while 0 < turns {
         turns -= 1;
@@ -132,13 +132,7 @@ fn use_up(fresh: Reader, first: Cursor, segment: &mut [u8], reassembly: &mut [u8
 fn read(form: Form, bytes: &[u8], cut: usize) {
     let mut segment = room::segment();
     let mut reassembly = room::reassembly();
-    use_up(
-        Reader::new(form, 131_083, 262_144),
-        first_piece(cut),
-        &mut segment,
-        &mut reassembly,
-        bytes,
-    );
+    use_up(form, cut, &mut segment, &mut reassembly, bytes);
     say::text(b"end");
 }
 
