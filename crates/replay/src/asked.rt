@@ -36,16 +36,10 @@ pub fn hex(line: &[u8], k: usize) -> usize {
     }
 }
 
-fn bits_above(n: usize) -> usize {
+// The bits, if what they were made of is not past 15 bits.
+fn within(n: usize, bits: usize) -> usize {
     if n < 32_768 {
-        return n;
-    }
-    usize::MAX
-}
-
-fn bits_below(n: usize) -> usize {
-    if n < 32_768 {
-        return 65_535 - n;
+        return bits;
     }
     usize::MAX
 }
@@ -53,8 +47,8 @@ fn bits_below(n: usize) -> usize {
 // The bits of a signed number of 16 bits.
 pub fn bits(line: &[u8], k: usize) -> usize {
     match words::integer(words::field(line, b' ', k)) {
-        Signed::Plus(n) => bits_above(n),
-        Signed::Minus(n) => bits_below(n),
+        Signed::Plus(n) => within(n, n),
+        Signed::Minus(n) => within(n, std::num::wrapping_sub_usize(65_535, n)),
         Signed::Missing => usize::MAX,
     }
 }

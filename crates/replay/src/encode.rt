@@ -8,7 +8,11 @@ use frame::Header;
 use frame::write;
 use types::number;
 
-fn is_header(line: &[u8]) -> bool {
+// The words of a header are such, and the name is this case's.
+fn is_asked(line: &[u8]) -> bool {
+    if !words::same(words::field(line, b' ', 0), b"encode") {
+        return false;
+    }
     if 255 < asked::number(line, 1) {
         return false;
     }
@@ -39,6 +43,7 @@ fn way(word: &[u8]) -> Direction {
     Direction::Response
 }
 
+// Of words that are those of a header, so that a remainder is the number itself.
 fn header(line: &[u8]) -> Header {
     let direction = way(words::field(line, b' ', 2));
     Header {
@@ -56,7 +61,7 @@ fn write_asked(line: &[u8], id: &[u8], text: &[u8], lens: &[usize], body: &[u8])
     outcome::written(answer, &out);
 }
 
-fn with_body(line: &[u8], id: &[u8], text: &[u8], body: &[u8]) -> bool {
+fn with_text(line: &[u8], id: &[u8], text: &[u8], body: &[u8]) -> bool {
     let mut items = room::items();
     let n = asked::lengths(line, 8, &mut items);
     if asked::MOST < n {
@@ -66,39 +71,27 @@ fn with_body(line: &[u8], id: &[u8], text: &[u8], body: &[u8]) -> bool {
     true
 }
 
-fn with_text(line: &[u8], id: &[u8], text: &[u8]) -> bool {
-    let mut body = room::bytes();
-    let n = asked::bytes(line, 9, &mut body);
-    if asked::MOST < n {
-        return false;
-    }
-    with_body(line, id, text, words::front(&body, n))
-}
-
-fn with_id(line: &[u8], id: &[u8]) -> bool {
+fn with_id(line: &[u8], id: &[u8], body: &[u8]) -> bool {
     let mut text = room::bytes();
     let n = asked::bytes(line, 7, &mut text);
     if asked::MOST < n {
         return false;
     }
-    with_text(line, id, words::front(&text, n))
+    with_text(line, id, words::front(&text, n), body)
 }
 
-fn with_header(line: &[u8]) -> bool {
+fn with_header(line: &[u8], body: &[u8]) -> bool {
     let mut id = room::bytes();
     let n = asked::bytes(line, 6, &mut id);
     if asked::MOST < n {
         return false;
     }
-    with_id(line, words::front(&id, n))
+    with_id(line, words::front(&id, n), body)
 }
 
-pub fn answer(line: &[u8]) -> bool {
-    if words::same(words::field(line, b' ', 0), b"encode") {
-        if is_header(line) {
-            return with_header(line);
-        }
-        return false;
+pub fn answer(line: &[u8], body: &[u8]) -> bool {
+    if is_asked(line) {
+        return with_header(line, body);
     }
     false
 }

@@ -24,37 +24,30 @@ fn answer_bytes(name: &[u8], bytes: &[u8]) -> bool {
     writes::answer(name, bytes)
 }
 
-// A name and some bytes.
-fn answer_two(line: &[u8]) -> bool {
-    let mut bytes = room::bytes();
-    let n = asked::bytes(line, 1, &mut bytes);
-    if asked::MOST < n {
-        return false;
-    }
-    answer_bytes(words::field(line, b' ', 0), words::front(&bytes, n))
-}
-
-// A name, a word, and some bytes.
-fn answer_three(line: &[u8]) -> bool {
-    let mut bytes = room::bytes();
-    let n = asked::bytes(line, 2, &mut bytes);
-    if asked::MOST < n {
-        return false;
-    }
+fn answer_three(line: &[u8], bytes: &[u8]) -> bool {
     if words::same(words::field(line, b' ', 0), b"pack") {
-        return segments::pack(line, words::front(&bytes, n));
+        return segments::pack(line, bytes);
     }
-    streams::answer(line, words::front(&bytes, n))
+    streams::answer(line, bytes)
 }
 
-// Whether the line was a case.
-fn answer(line: &[u8]) -> bool {
+fn answer_with(line: &[u8], bytes: &[u8]) -> bool {
     match words::count(line, b' ') {
-        1 => answer_two(line),
-        2 => answer_three(line),
-        9 => encode::answer(line),
+        1 => answer_bytes(words::field(line, b' ', 0), bytes),
+        2 => answer_three(line, bytes),
+        9 => encode::answer(line, bytes),
         _ => false,
     }
+}
+
+// Whether the line was a case. The last word of each is some bytes.
+fn answer(line: &[u8]) -> bool {
+    let mut bytes = room::bytes();
+    let n = asked::bytes(line, words::count(line, b' '), &mut bytes);
+    if asked::MOST < n {
+        return false;
+    }
+    answer_with(line, words::front(&bytes, n))
 }
 
 fn answer_all(input: &[u8]) {

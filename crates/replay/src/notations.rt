@@ -44,8 +44,7 @@ fn list(bytes: &[u8]) {
 }
 
 fn null(next: usize) {
-    say::text(b"null");
-    outcome::next(next);
+    say::number(b"null next ", next);
 }
 
 fn part(bytes: &[u8], place: Place, next: usize) {

@@ -47,7 +47,6 @@ fn pack_fresh(first: &[u8], second: &[u8]) {
     pack_both(&mut out, first, second);
 }
 
-// The second is read before, so that nothing is said of a line that is no case.
 pub fn pack(line: &[u8], second: &[u8]) -> bool {
     let mut first = room::bytes();
     let n = asked::bytes(line, 1, &mut first);

@@ -14,51 +14,6 @@ use refusal::Refusal;
 use segment::Form;
 use types::Place;
 
-// What is to be done after an answer: call again with the rest of the piece, give the next piece, or nothing more.
-enum Next {
-    Rest,
-    Piece,
-    Nothing,
-}
-
-fn say_envelope<'a>(
-    buffer: Buffer,
-    place: Place,
-    reading: Envelope,
-    segment: &'a [u8],
-    reassembly: &'a [u8],
-) -> Next {
-    say::text(b"env");
-    envelope::whole(
-        frame_decoder::part(buffer, segment, reassembly, place),
-        reading,
-    );
-    say::text(b"; ");
-    Next::Rest
-}
-
-fn say_more() -> Next {
-    say::text(b"more; ");
-    Next::Piece
-}
-
-fn say_refused(why: Refusal) -> Next {
-    outcome::refused(why);
-    say::text(b"; ");
-    Next::Nothing
-}
-
-fn say_answer<'a>(answer: Answer, segment: &'a [u8], reassembly: &'a [u8]) -> Next {
-    match answer {
-        Answer::Envelope(buffer, place, reading) => {
-            say_envelope(buffer, place, reading, segment, reassembly)
-        }
-        Answer::Leftover(_) => Next::Rest,
-        Answer::More => say_more(),
-        Answer::Refused(why) => say_refused(why),
-    }
-}
-
 // Where the next call begins to read, where the piece in hand ends, and how many pieces are to be used up with it.
 struct Cursor {
     start: usize,
@@ -66,17 +21,12 @@ struct Cursor {
     pieces: usize,
 }
 
-// The second piece goes to the end of the stream, wherever that is.
-fn next_piece(cursor: Cursor) -> Cursor {
-    let start = cursor.end;
-    if cursor.pieces == 2 {
-        return Cursor {
-            start,
-            end: usize::MAX,
-            pieces: 1,
-        };
+fn first_piece(cut: usize) -> Cursor {
+    Cursor {
+        start: 0,
+        end: cut,
+        pieces: 2,
     }
-    over()
 }
 
 fn over() -> Cursor {
@@ -87,7 +37,7 @@ fn over() -> Cursor {
     }
 }
 
-fn rest(cursor: Cursor, taken: usize) -> Cursor {
+fn behind(cursor: Cursor, taken: usize) -> Cursor {
     Cursor {
         start: std::num::wrapping_add_usize(cursor.start, taken),
         end: cursor.end,
@@ -95,81 +45,94 @@ fn rest(cursor: Cursor, taken: usize) -> Cursor {
     }
 }
 
-fn moved(cursor: Cursor, next: Next, taken: usize) -> Cursor {
-    match next {
-        Next::Rest => rest(cursor, taken),
-        Next::Piece => next_piece(cursor),
-        Next::Nothing => over(),
+// What is left of the piece in hand.
+fn rest_of(bytes: &[u8], cursor: Cursor) -> &[u8] {
+    let piece = words::front(bytes, cursor.end);
+    let start = cursor.start;
+    if start <= piece.len() {
+        return &piece[start..];
+    }
+    &piece[0..0]
+}
+
+fn say_envelope<'a>(
+    buffer: Buffer,
+    place: Place,
+    reading: Envelope,
+    segment: &'a [u8],
+    reassembly: &'a [u8],
+) {
+    say::text(b"env");
+    envelope::whole(
+        frame_decoder::part(buffer, segment, reassembly, place),
+        reading,
+    );
+    say::text(b"; ");
+}
+
+// The second piece goes to the end of the stream, wherever that is.
+fn say_more(cursor: Cursor) -> Cursor {
+    say::text(b"more; ");
+    if cursor.pieces == 2 {
+        return Cursor {
+            start: cursor.end,
+            end: usize::MAX,
+            pieces: 1,
+        };
+    }
+    over()
+}
+
+fn say_refused(why: Refusal) -> Cursor {
+    outcome::refused(why);
+    say::text(b"; ");
+    over()
+}
+
+// An answer, and where the next call begins; it came with a cursor behind what was taken.
+fn say_answer<'a>(
+    answer: Answer,
+    cursor: Cursor,
+    segment: &'a [u8],
+    reassembly: &'a [u8],
+) -> Cursor {
+    match answer {
+        Answer::Envelope(buffer, place, reading) => {
+            say_envelope(buffer, place, reading, segment, reassembly);
+            cursor
+        }
+        Answer::Leftover(_) => cursor,
+        Answer::More => say_more(cursor),
+        Answer::Refused(why) => say_refused(why),
     }
 }
 
-struct Run {
-    reader: Reader,
-    cursor: Cursor,
-}
-
-fn said<'a>(step: Step, cursor: Cursor, segment: &'a [u8], reassembly: &'a [u8]) -> Run {
+fn said<'a>(step: Step, cursor: Cursor, segment: &'a [u8], reassembly: &'a [u8]) -> Cursor {
     let heard = step.heard;
     let answer = heard.answer;
-    let next = say_answer(answer, segment, reassembly);
-    let reader = step.reader;
-    Run {
-        reader,
-        cursor: moved(cursor, next, heard.taken),
-    }
-}
-
-// What stands behind the first n, or nothing where there are fewer.
-fn behind(bytes: &[u8], n: usize) -> &[u8] {
-    if n <= bytes.len() {
-        return &bytes[n..];
-    }
-    &bytes[0..0]
-}
-
-fn rest_of(bytes: &[u8], cursor: Cursor) -> &[u8] {
-    behind(words::front(bytes, cursor.end), cursor.start)
-}
-
-fn call(run: Run, segment: &mut [u8], reassembly: &mut [u8], bytes: &[u8]) -> Run {
-    let reader = run.reader;
-    let cursor = run.cursor;
-    let step = reader.read(segment, reassembly, rest_of(bytes, cursor));
-    said(step, cursor, segment, reassembly)
-}
-
-fn pieces(run: Run) -> usize {
-    let cursor = run.cursor;
-    cursor.pieces
+    say_answer(answer, behind(cursor, heard.taken), segment, reassembly)
 }
 
 // So many calls are enough for any stream here: the largest payload has 14,563 envelopes.
-fn use_up(first: Run, segment: &mut [u8], reassembly: &mut [u8], bytes: &[u8]) {
-    let mut run = first;
+fn use_up(form: Form, cut: usize, segment: &mut [u8], reassembly: &mut [u8], bytes: &[u8]) {
+    let mut reader = Reader::new(form, 131_083, 262_144);
+    let mut cursor = first_piece(cut);
     let mut turns: usize = 200_000;
     while 0 < turns {
         turns -= 1;
-        run = call(run, segment, reassembly, bytes);
-        if pieces(run) == 0 {
+        let step = reader.read(segment, reassembly, rest_of(bytes, cursor));
+        cursor = said(step, cursor, segment, reassembly);
+        if cursor.pieces == 0 {
             return;
         }
+        reader = step.reader;
     }
-}
-
-fn fresh(form: Form, cut: usize) -> Run {
-    let reader = Reader::new(form, 131_083, 262_144);
-    let cursor = Cursor {
-        start: 0,
-        end: cut,
-        pieces: 2,
-    };
-    Run { reader, cursor }
 }
 
 fn read(form: Form, bytes: &[u8], cut: usize) {
     let mut segment = room::segment();
     let mut reassembly = room::reassembly();
-    use_up(fresh(form, cut), &mut segment, &mut reassembly, bytes);
+    use_up(form, cut, &mut segment, &mut reassembly, bytes);
     say::text(b"end");
 }
 

@@ -7,11 +7,11 @@ use Rattle.replay.proofs.streams.use_up.Statement.{statement}
 use Rattle.replay.proofs.streams.use_up.Tie as tie
 
 abbrev Inv-loop : tie.InvT-loop
-Inv-loop segment₀ reassembly₀ bytes run₀ turns₀ segment reassembly run turns =
+Inv-loop cut segment₀ reassembly₀ bytes reader₀ cursor₀ turns₀ segment reassembly reader cursor turns =
     (length segment ≡ length segment₀) × (length reassembly ≡ length reassembly₀)
 
 abbrev μ-loop : tie.MeasureT-loop
-μ-loop segment₀ reassembly₀ bytes run₀ turns₀ segment reassembly run turns = turns
+μ-loop cut segment₀ reassembly₀ bytes reader₀ cursor₀ turns₀ segment reassembly reader cursor turns = turns
 
 pub use-up-spec : {M : Type 1} → statement M
 use-up-spec =
@@ -19,8 +19,11 @@ use-up-spec =
     (tie.spec
     Inv-loop
     μ-loop
+    (λ c κs. tt)
+    (λ c κs. tt)
     (λ c. search needs)
     (λ c. omega arith)
+    (λ c κs. tt)
     (λ c κs. tt)
     (λ c κs. tt)
     (λ c. search needs)
