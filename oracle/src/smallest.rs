@@ -22,27 +22,28 @@ fn without<T: Clone>(list: &[T], from: usize, to: usize) -> Vec<T> {
     [&list[..from], &list[to..]].concat()
 }
 
+/// Of long bytes only large parts are taken out, and single ones at the end.
+const LONG: usize = 2_000;
+
 /// Shorter bytes, and bytes with one of them 0.
 pub fn simpler_bytes(bytes: &[u8]) -> Vec<Vec<u8>> {
     let n = bytes.len();
-    let mut out = vec![];
-    let mut size = n.div_ceil(2);
-    while size > 0 && n > 0 {
-        out.extend(
-            (0..n)
-                .step_by(size)
-                .map(|from| without(bytes, from, (from + size).min(n))),
-        );
+    let (mut out, mut size) = (vec![], n.div_ceil(2));
+    while size > 0 && (n <= LONG || size > n / 64) {
+        let starts = (0..n).step_by(size);
+        out.extend(starts.map(|from| without(bytes, from, (from + size).min(n))));
         size /= 2;
+    }
+    if n > LONG {
+        out.extend([100, 10, 1].map(|less| bytes[..n - less].to_vec()));
+        return out;
     }
     let zeroed = |k: usize| {
         let mut copy = bytes.to_vec();
         copy[k] = 0;
         copy
     };
-    if n <= 2_000 {
-        out.extend((0..n).filter(|k| bytes[*k] != 0).map(zeroed));
-    }
+    out.extend((0..n).filter(|k| bytes[*k] != 0).map(zeroed));
     out
 }
 
