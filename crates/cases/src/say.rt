@@ -3,9 +3,6 @@ use frame::Direction;
 use frame::Header;
 use libc::STDOUT_FILENO;
 use refusal::Refusal;
-use types::Place;
-use types::Walk;
-use types::Walked;
 
 pub fn text(words: &[u8]) {
     io::write_all(STDOUT_FILENO, words);
@@ -28,7 +25,7 @@ pub fn integer(before: &[u8], x: i64) {
     }
 }
 
-pub fn byte(x: u8) {
+fn byte(x: u8) {
     io::print_hex(STDOUT_FILENO, x as u64, 2);
 }
 
@@ -97,27 +94,6 @@ pub fn header(header: Header) {
     stream(header.stream);
     text(b" ");
     byte(header.opcode);
-}
-
-// The next text of a walk and the rest behind it, or that it is over.
-pub enum Rest {
-    More(Place, Walk),
-    Over,
-}
-
-// How a walk goes on; where it is over, how it ended is said.
-pub fn step(answer: Walked) -> Rest {
-    match answer {
-        Walked::Text(place, rest) => Rest::More(place, rest),
-        Walked::End(next) => {
-            number(b" end ", next);
-            Rest::Over
-        }
-        Walked::Refused(why) => {
-            refused(b" refused ", why);
-            Rest::Over
-        }
-    }
 }
 
 // A line that is no case is answered too, so that every answer stands at its line.

@@ -18,10 +18,7 @@ use types::read;
 // Word 0: 0 a refusal (word 1 its number), 1 a value (word 1; signed ones as their bits), 2 a part (words 1 and 2: start and length), 3 null, 4 a
 // list (words 1 and 2: how many strings and where the first begins). Word 3 is where the notation ends.
 fn put_said(said: &mut [usize], kind: usize, a: usize, b: usize, next: usize) {
-    words::put(said, 0, kind);
-    words::put(said, 1, a);
-    words::put(said, 2, b);
-    words::put(said, 3, next);
+    words::put4(said, 0, kind, a, b, next);
 }
 
 fn put_refused(said: &mut [usize], why: Refusal) {

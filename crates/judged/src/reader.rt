@@ -32,19 +32,24 @@ fn of_buffer(buffer: Buffer) -> usize {
 // Words 5 to 9: version, direction, flags, stream (16 bits), opcode.
 fn put_header(said: &mut [usize], header: Header) {
     let direction = header.direction;
-    words::put(said, 5, header.version as usize);
-    words::put(said, 6, of_direction(direction));
-    words::put(said, 7, header.flags as usize);
-    words::put(said, 8, bits16(header.stream) as usize);
+    let number = bits16(header.stream) as usize;
+    let version = header.version as usize;
+    let flags = header.flags as usize;
+    words::put4(said, 5, version, of_direction(direction), flags, number);
     words::put(said, 9, header.opcode as usize);
 }
 
 // Words 10 to 14: whether there is an id, the warnings' number and place, the body's place and length.
 fn put_body(said: &mut [usize], e: Envelope) {
-    words::put(said, 10, words::flag(e.traced));
-    words::put(said, 11, e.warnings.left as usize);
-    words::put(said, 12, e.warnings.at);
-    words::put(said, 13, e.body.start);
+    let left = e.warnings.left as usize;
+    words::put4(
+        said,
+        10,
+        words::flag(e.traced),
+        left,
+        e.warnings.at,
+        e.body.start,
+    );
     words::put(said, 14, e.body.len);
 }
 
@@ -64,10 +69,7 @@ pub extern "C" fn judged_parse(bytes: &[u8], said: &mut [usize]) {
             words::put(said, 0, 1);
             put_envelope(said, e);
         }
-        Reading::Refused(why) => {
-            words::put(said, 0, 2);
-            words::put(said, 1, words::number(why));
-        }
+        Reading::Refused(why) => words::put4(said, 0, 2, words::number(why), 0, 0),
     }
 }
 
@@ -167,18 +169,20 @@ fn phase(state: &[usize]) -> Phase {
 }
 
 fn put_phase(state: &mut [usize], name: usize, a: usize, b: usize, is: bool) {
-    words::put(state, 4, name);
-    words::put(state, 5, a);
-    words::put(state, 6, b);
-    words::put(state, 7, words::flag(is));
+    words::put4(state, 4, name, a, b, words::flag(is));
 }
 
 fn put_state(state: &mut [usize], reader: Reader) {
     let form = reader.form;
-    words::put(state, 0, words::of_form(form));
-    words::put(state, 1, reader.segment_len);
-    words::put(state, 2, reader.reassembly_len);
-    words::put(state, 3, reader.pending);
+    let word = words::of_form(form);
+    words::put4(
+        state,
+        0,
+        word,
+        reader.segment_len,
+        reader.reassembly_len,
+        reader.pending,
+    );
     let phase = reader.phase;
     match phase {
         Phase::Header { filled } => put_phase(state, 0, filled, 0, false),
@@ -199,20 +203,11 @@ fn put_answer(said: &mut [usize], answer: Answer) {
     match answer {
         Answer::More => words::put(said, 0, 0),
         Answer::Envelope(buffer, place, e) => {
-            words::put(said, 0, 1);
-            words::put(said, 1, of_buffer(buffer));
-            words::put(said, 2, place.start);
-            words::put(said, 3, place.len);
+            words::put4(said, 0, 1, of_buffer(buffer), place.start, place.len);
             put_envelope(said, e);
         }
-        Answer::Refused(why) => {
-            words::put(said, 0, 2);
-            words::put(said, 1, words::number(why));
-        }
-        Answer::Leftover(n) => {
-            words::put(said, 0, 3);
-            words::put(said, 1, n);
-        }
+        Answer::Refused(why) => words::put4(said, 0, 2, words::number(why), 0, 0),
+        Answer::Leftover(n) => words::put4(said, 0, 3, n, 0, 0),
     }
 }
 

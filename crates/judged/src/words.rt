@@ -15,6 +15,16 @@ pub fn put(words: &mut [usize], k: usize, x: usize) {
     }
 }
 
+// Four words from a place on.
+pub fn put4(words: &mut [usize], k: usize, a: usize, b: usize, c: usize, d: usize) {
+    if k < usize::MAX - 3 {
+        put(words, k, a);
+        put(words, k + 1, b);
+        put(words, k + 2, c);
+        put(words, k + 3, d);
+    }
+}
+
 fn put_byte(out: &mut [u8], k: usize, b: u8) {
     if k < out.len() {
         out[k] = b;

@@ -4,6 +4,7 @@ use crate::words;
 use frame::write::write_envelope;
 use frame_encoder::Encoded;
 use frame_encoder::FrameEncoder;
+use segment::Header;
 use segment::ReadHeader;
 use types::Written;
 use types::number::signed32;
@@ -13,14 +14,8 @@ use types::write;
 // Word 0: 0 a refusal (word 1 its number), 1 where the bytes written end (word 1).
 fn put_written(said: &mut [usize], answer: Written) {
     match answer {
-        Written::Next(next) => {
-            words::put(said, 0, 1);
-            words::put(said, 1, next);
-        }
-        Written::Refused(why) => {
-            words::put(said, 0, 0);
-            words::put(said, 1, words::number(why));
-        }
+        Written::Next(next) => words::put4(said, 0, 1, next, 0, 0),
+        Written::Refused(why) => words::put4(said, 0, 0, words::number(why), 0, 0),
     }
 }
 
@@ -113,15 +108,8 @@ fn put_encoder(state: &mut [usize], next: FrameEncoder) {
 // Word 0: 0 a refusal (word 1 its number), 1 so many bytes written (word 1) and so many taken of what was given (word 2).
 fn put_encoded(said: &mut [usize], answer: Encoded) {
     match answer {
-        Encoded::Wrote(size, taken) => {
-            words::put(said, 0, 1);
-            words::put(said, 1, size);
-            words::put(said, 2, taken);
-        }
-        Encoded::Refused(why) => {
-            words::put(said, 0, 0);
-            words::put(said, 1, words::number(why));
-        }
+        Encoded::Wrote(size, taken) => words::put4(said, 0, 1, size, taken, 0),
+        Encoded::Refused(why) => words::put4(said, 0, 0, words::number(why), 0, 0),
     }
 }
 
@@ -178,20 +166,25 @@ pub extern "C" fn judged_piece(
     put_encoded(said, answer);
 }
 
+fn put_header(said: &mut [usize], header: Header) {
+    let payload = header.payload as usize;
+    let uncompressed = header.uncompressed as usize;
+    words::put4(
+        said,
+        0,
+        1,
+        payload,
+        uncompressed,
+        words::flag(header.self_contained),
+    );
+}
+
 // Word 0: 0 incomplete, 1 a header (words 1 to 3: payload's length, length before compression, self-contained), 2 a refusal (word 1 its number).
 #[no_mangle]
 pub extern "C" fn judged_header(long: usize, bytes: &[u8], said: &mut [usize]) {
     match segment::read_header(words::form(long), bytes) {
         ReadHeader::Incomplete => words::put(said, 0, 0),
-        ReadHeader::Whole(header) => {
-            words::put(said, 0, 1);
-            words::put(said, 1, header.payload as usize);
-            words::put(said, 2, header.uncompressed as usize);
-            words::put(said, 3, words::flag(header.self_contained));
-        }
-        ReadHeader::Refused(why) => {
-            words::put(said, 0, 2);
-            words::put(said, 1, words::number(why));
-        }
+        ReadHeader::Whole(header) => put_header(said, header),
+        ReadHeader::Refused(why) => words::put4(said, 0, 2, words::number(why), 0, 0),
     }
 }
