@@ -2,6 +2,7 @@
 use crate::envelopes::Faults;
 use crate::judged::Form;
 use crate::random::Random;
+use crate::smallest::{on_bytes, on_stream};
 use crate::streams::{self, Damage, Part, Scale, Stream, SIZES};
 use crate::tally::Tally;
 use crate::{judge_envelopes, judge_notations, judge_streams};
@@ -9,8 +10,8 @@ use crate::{judge_envelopes, judge_notations, judge_streams};
 type Verdict = Result<(), String>;
 
 fn both(bytes: &[u8], tally: &mut Tally) -> Verdict {
-    judge_envelopes::parse(bytes, tally)?;
-    judge_envelopes::size(bytes, tally)
+    on_bytes(bytes.to_vec(), tally, judge_envelopes::parse)?;
+    on_bytes(bytes.to_vec(), tally, judge_envelopes::size)
 }
 
 fn header(first: u8, flags: u8, stream: u16, opcode: u8, length: i32, body: &[u8]) -> Vec<u8> {
@@ -87,9 +88,9 @@ fn small_lists(tally: &mut Tally) -> Verdict {
     for n in 0..=7u32 {
         for k in 0..6usize.pow(n) {
             let bytes: Vec<u8> = (0..n).map(|i| BYTES[k / 6usize.pow(i) % 6]).collect();
-            judge_notations::list(&bytes, tally)?;
-            judge_notations::short_bytes(&bytes, tally)?;
-            judge_notations::numbers(&bytes, tally)?;
+            on_bytes(bytes.clone(), tally, judge_notations::list)?;
+            on_bytes(bytes.clone(), tally, judge_notations::short_bytes)?;
+            on_bytes(bytes.clone(), tally, judge_notations::numbers)?;
         }
     }
     Ok(())
@@ -113,8 +114,8 @@ fn every_cut(random: &mut Random, n: usize, tally: &mut Tally) -> Verdict {
         let len = stream.bytes().len();
         for first in 0..=len {
             for second in 0..=len - first {
-                judge_streams::judge(
-                    &Stream {
+                on_stream(
+                    Stream {
                         cuts: vec![first, second],
                         ..stream.clone()
                     },
@@ -139,12 +140,12 @@ fn every_bit(random: &mut Random, n: usize, tally: &mut Tally) -> Verdict {
             for damage in turned.chain((0..32).map(|bit| Damage::PayloadCheck(1 << bit))) {
                 let mut copy = stream.clone();
                 copy.parts[k].damage = damage;
-                judge_streams::judge(&copy, &mut lent, tally)?;
+                on_stream(copy, &mut lent, tally)?;
             }
             for bit in 0..stream.parts[k].payload.len() * 8 {
                 let mut copy = stream.clone();
                 copy.parts[k].payload[bit / 8] ^= 1 << (bit % 8);
-                judge_streams::judge(&copy, &mut lent, tally)?;
+                on_stream(copy, &mut lent, tally)?;
             }
         }
     }
@@ -165,8 +166,8 @@ fn largest(tally: &mut Tally) -> Verdict {
                     damage: Damage::None,
                 };
                 for cuts in [vec![], vec![1, 5], vec![131_070]] {
-                    judge_streams::judge(
-                        &Stream {
+                    on_stream(
+                        Stream {
                             form,
                             parts: vec![part.clone(), part.clone()],
                             cuts,

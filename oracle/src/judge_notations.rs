@@ -204,22 +204,40 @@ fn written(room: usize, write: impl FnOnce(&mut [u8]) -> judged::Written) -> Out
     }
 }
 
+/// What stands behind a [short] count; past that the Rust's count loses its upper bits.
+fn counted(
+    what: &'static str,
+    bytes: &[u8],
+    ours: Outcome<Vec<u8>>,
+    theirs: Vec<u8>,
+    tally: &mut Tally,
+) -> Result<(), String> {
+    let theirs = Outcome::Gave(theirs);
+    if bytes.len() <= 65_535 {
+        return same(what, bytes, ours, theirs, tally);
+    }
+    let is_so = ours == Outcome::Refused(15) && theirs == Outcome::Gave(wrapped(bytes));
+    class(
+        what,
+        "over 65,535 bytes",
+        bytes,
+        is_so,
+        &ours,
+        &theirs,
+        tally,
+    )
+}
+
 pub fn write_text(text: &str, tally: &mut Tally) -> Result<(), String> {
     let bytes = text.as_bytes();
     let ours = written(bytes.len() + 10, |out| {
         judged::write_bytes(Notation::String, out, 0, bytes)
     });
-    let theirs = Outcome::Gave(theirs::write_string(text));
-    if bytes.len() <= 65_535 {
-        return same("[string] written", bytes, ours, theirs, tally);
-    }
-    class(
+    counted(
         "[string] written",
-        "over 65,535 bytes",
         bytes,
-        ours == Outcome::Refused(15) && theirs == Outcome::Gave(wrapped(bytes)),
-        &ours,
-        &theirs,
+        ours,
+        theirs::write_string(text),
         tally,
     )
 }
@@ -242,20 +260,12 @@ pub fn write_bytes(bytes: &[u8], tally: &mut Tally) -> Result<(), String> {
         Outcome::Gave(theirs::write_bytes(None)),
         tally,
     )?;
-    let (ours, theirs) = (
-        part(Notation::ShortBytes),
-        Outcome::Gave(theirs::write_short_bytes(bytes)),
-    );
-    if bytes.len() <= 65_535 {
-        return same("[short bytes] written", bytes, ours, theirs, tally);
-    }
-    class(
+    let theirs = theirs::write_short_bytes(bytes);
+    counted(
         "[short bytes] written",
-        "over 65,535 bytes",
         bytes,
-        ours == Outcome::Refused(15) && theirs == Outcome::Gave(wrapped(bytes)),
-        &ours,
-        &theirs,
+        part(Notation::ShortBytes),
+        theirs,
         tally,
     )
 }

@@ -25,6 +25,7 @@ mod theirs;
 
 use envelopes::Faults;
 use random::Random;
+use smallest::on_bytes;
 use tally::Tally;
 
 type Verdict = Result<(), String>;
@@ -51,37 +52,7 @@ fn a_stream(
     } else {
         streams::SMALL
     };
-    let stream = streams::stream(random, scale, faults_of(k));
-    judge_streams::judge(&stream, lent, tally).map_err(|_| {
-        let fails = |stream: &streams::Stream| {
-            judge_streams::judge(
-                stream,
-                &mut judge_streams::Lent::new(),
-                &mut Tally::default(),
-            )
-        };
-        let least = smallest::smallest(stream, smallest::simpler_streams, |stream| {
-            fails(stream).is_err()
-        });
-        fails(&least).err().unwrap_or_default()
-    })
-}
-
-/// The smallest bytes on which a judgement of bytes fails.
-fn on_bytes(
-    bytes: Vec<u8>,
-    tally: &mut Tally,
-    judge: impl Fn(&[u8], &mut Tally) -> Verdict,
-) -> Verdict {
-    judge(&bytes, tally).map_err(|_| {
-        let fails = |bytes: &[u8]| judge(bytes, &mut Tally::default());
-        let least = smallest::smallest(
-            bytes,
-            |bytes| smallest::simpler_bytes(bytes),
-            |bytes| fails(bytes).is_err(),
-        );
-        fails(&least).err().unwrap_or_default()
-    })
+    smallest::on_stream(streams::stream(random, scale, faults_of(k)), lent, tally)
 }
 
 /// An envelope with bytes behind it, or without its last ones.
@@ -132,14 +103,12 @@ fn a_notation(random: &mut Random, k: usize, tally: &mut Tally) -> Verdict {
 
 fn a_writing(random: &mut Random, k: usize, tally: &mut Tally) -> Verdict {
     let fields = judge_writing::fields(random, 2_000);
-    judge_writing::envelope(&fields, tally).map_err(|_| {
-        let fails =
-            |fields: &judge_writing::Fields| judge_writing::envelope(fields, &mut Tally::default());
-        let least = smallest::smallest(fields, judge_writing::simpler_fields, |fields| {
-            fails(fields).is_err()
-        });
-        fails(&least).err().unwrap_or_default()
-    })?;
+    smallest::on(
+        fields,
+        judge_writing::simpler_fields,
+        judge_writing::envelope,
+        tally,
+    )?;
     let lengths: Vec<usize> = if k % 200 == 0 {
         let first = streams::LARGEST - random.below(40);
         vec![first, random.below(60), random.below(20)]
@@ -147,7 +116,12 @@ fn a_writing(random: &mut Random, k: usize, tally: &mut Tally) -> Verdict {
         (0..random.below(6)).map(|_| random.below(30)).collect()
     };
     let parts: Vec<Vec<u8>> = lengths.into_iter().map(|n| random.bytes(n)).collect();
-    judge_writing::pack(&parts, tally)?;
+    smallest::on(
+        parts,
+        smallest::simpler_lists,
+        |parts, tally| judge_writing::pack(parts, tally),
+        tally,
+    )?;
     let n = if k % 200 == 0 {
         streams::LARGEST * (1 + random.below(2)) + random.below(5) - 2
     } else {

@@ -1,6 +1,8 @@
 //! The smallest input that still shows a difference.
+use crate::judge_streams::{self, Lent};
 use crate::rules::{self, First};
 use crate::streams::{Damage, Part, Stream, LARGEST, SIZES};
+use crate::tally::Tally;
 
 /// Takes the first simpler input that still fails, as long as there is one.
 pub fn smallest<T: Clone>(
@@ -16,6 +18,59 @@ pub fn smallest<T: Clone>(
         least = next;
     }
     least
+}
+
+type Verdict = Result<(), String>;
+
+/// A judgement of an input; where it fails, that of the smallest input on which it fails too.
+pub fn on<T: Clone>(
+    input: T,
+    simpler: impl Fn(&T) -> Vec<T>,
+    judge: impl Fn(&T, &mut Tally) -> Verdict,
+    tally: &mut Tally,
+) -> Verdict {
+    judge(&input, tally).map_err(|first| {
+        let fails = |input: &T| judge(input, &mut Tally::default());
+        let least = smallest(input, simpler, |input| fails(input).is_err());
+        fails(&least).err().unwrap_or(first)
+    })
+}
+
+pub fn on_bytes(
+    bytes: Vec<u8>,
+    tally: &mut Tally,
+    judge: impl Fn(&[u8], &mut Tally) -> Verdict,
+) -> Verdict {
+    on(
+        bytes,
+        |bytes| simpler_bytes(bytes),
+        |bytes, tally| judge(bytes, tally),
+        tally,
+    )
+}
+
+/// The buffers of a first try are lent; a smaller stream gets its own.
+pub fn on_stream(stream: Stream, lent: &mut Lent, tally: &mut Tally) -> Verdict {
+    judge_streams::judge(&stream, lent, tally).map_err(|first| {
+        let judge = |stream: &Stream, tally: &mut Tally| {
+            judge_streams::judge(stream, &mut Lent::new(), tally)
+        };
+        on(stream, simpler_streams, judge, &mut Tally::default())
+            .err()
+            .unwrap_or(first)
+    })
+}
+
+pub fn simpler_lists(list: &Vec<Vec<u8>>) -> Vec<Vec<Vec<u8>>> {
+    let mut out: Vec<Vec<Vec<u8>>> = (0..list.len()).map(|k| without(list, k, k + 1)).collect();
+    for k in 0..list.len() {
+        out.extend(simpler_bytes(&list[k]).into_iter().map(|bytes| {
+            let mut copy = list.clone();
+            copy[k] = bytes;
+            copy
+        }));
+    }
+    out
 }
 
 fn without<T: Clone>(list: &[T], from: usize, to: usize) -> Vec<T> {
