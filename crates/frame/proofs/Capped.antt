@@ -7,7 +7,7 @@ use native.Mathlib.Nat.{lt-of-not-le}
 use native.Mathlib.Omega.{arith}
 use borrow.Author.Tests.{le-leb, lt-leb}
 use Rattle.frame.specs.Write.{maxBody}
-use Rattle.frame.specs.Inside.{capped}
+use Rattle.frame.specs.Private.Inside.{capped}
 
 pub capped-small : {n : ℕ} → n ≤ maxBody → capped n ≡ n
 unfolding capped

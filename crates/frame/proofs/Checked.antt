@@ -13,7 +13,7 @@ use Rattle.types.proofs.Put.{demanded, denied}
 use Rattle.types.proofs.Cut.{both-true, demand-fine, list-length}
 use Rattle.frame.specs.Header.{Header, knownVersion, knownOpcode, hasId, hasWarnings}
 use Rattle.frame.specs.Write.{Content, idPart, warningsPart, tailBytes, maxFlags, maxBody, idFits, warningFits, flagsFit, headFits, warningsCheck, envelopeCheck}
-use Rattle.frame.specs.Inside.{idSize, warningsSize, tailSize, Planned}
+use Rattle.frame.specs.Private.Inside.{idSize, warningsSize, tailSize, Planned}
 
 -- ---- the parts that a header asks for
 

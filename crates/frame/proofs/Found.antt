@@ -18,6 +18,7 @@ use Rattle.types.proofs.Walking.{walk-read, list-strings}
 use Rattle.frame.specs.Header.{headerOf, knownOpcode, hasWarnings}
 use Rattle.basis.specs.Front.{Front, incomplete, refuses, whole}
 use Rattle.frame.specs.Envelope.{declared, sizeOf, Envelope, envelopeWith, afterId, warningsAt, within, inside, envelope, textsOf, warningsIn}
+use Rattle.frame.specs.Along.{Walked}
 use Rattle.basis.proofs.Fronts.{not-whole, refused-not-whole, whole-value}
 use Rattle.frame.proofs.Cases.{Withins, opcode-unknown, id-cut, warnings-bad, read, within-case, Sized, size-found, envelope-unfinished, envelope-refused, envelope-inside, warnings-there, warnings-none}
 
@@ -117,14 +118,6 @@ warnings-here s {e} f = go (hasWarnings (headerOf s)) refl
         (sym (warnings-there (take (e .size) s) (headerOf s) (afterId (headerOf s)) w) ∙ f .warnings) (drop (e .size) s)
     go false w =
         warnings-none s (headerOf s) (afterId (headerOf s)) w ∙ sym (warnings-none (take (e .size) s) (headerOf s) (afterId (headerOf s)) w) ∙ f .warnings
-
--- walking along them from where the reading says meets their texts, as many as it says, and comes to an end
-pub record Walked (s : List ℕ) (e : Envelope) : Type 0 where
-  pub places : List Place
-  pub end : ℕ
-  pub walks : Walks s (e .warnings .count) (e .warnings .start) places (got tt end)
-  pub many : length places ≡ e .warnings .count
-  pub texts : textsIn s places ≡ warningsIn s e
 
 pub warnings-walk : (s : List ℕ) {e : Envelope} → envelope s ≡ whole e → Walked s e
 unfolding warningsIn

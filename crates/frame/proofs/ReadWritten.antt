@@ -21,30 +21,21 @@ use Rattle.types.specs.Write.{Check, fine, joined, lengthsOf, listBytes, listCh
 use Rattle.types.proofs.BigEndian.{digits-be, be-below, length-part, bytes-part}
 use Rattle.types.proofs.Put.{demanded}
 use Rattle.types.proofs.Found.{some-counted, got-next}
-use Rattle.types.proofs.Holds.{Holds, holds-part, holds-join, holds-put, Stands}
+use Rattle.types.specs.ThereAndBack.{Holds, Stands}
+use Rattle.types.proofs.Holds.{holds-part, holds-join, holds-put}
 use Rattle.types.proofs.Lists.{ListRead, list-forth, cut-joined}
 use Rattle.types.proofs.Reading.{bytes-there}
 use Rattle.frame.specs.Header.{Header, headerOf, flag, hasId, hasWarnings}
 use Rattle.basis.specs.Front.{whole}
 use Rattle.frame.specs.Envelope.{declared, Envelope, idPlace, afterId, warningsAt, envelope, idIn, bodyIn, textsOf, warningsIn}
 use Rattle.frame.specs.Write.{Content, content, idPart, warningsPart, tailBytes, headerBytes, envelopeBytes, maxBody, maxFlags, idFits, warningFits, flagsFit, headFits, warningsCheck, envelopeCheck}
+use Rattle.frame.specs.ThereAndBack.{Premises, contentOf, WrittenAgain}
 use Rattle.frame.proofs.Bounds.{within-bytes}
 use Rattle.frame.proofs.Cases.{warnings-there, warnings-none}
 use Rattle.frame.proofs.Checked.{id-there, id-none, list-there, list-none, check-there, check-none, tail-length}
 use Rattle.frame.proofs.Ends.{warnings-end}
 use Rattle.frame.proofs.Found.{Found, found, warnings-here}
 use Rattle.frame.proofs.Laid.{header-length, envelope-length}
-
--- the flag byte has none of 01, 20, 40 and 80; it is no request with 08; and its declared length is not over the largest that is written
-pub record Premises (s : List ℕ) (e : Envelope) : Type 0 where
-  pub even : getD s 1 0 % 2 ≡ 0
-  pub low : getD s 1 0 < 32
-  pub response : flag 8 (getD s 1 0) ≡ true → e .header .response ≡ true
-  pub small : e .size ≤ 9 + maxBody
-
--- what was read, as it is given to the writer
-unfoldable pub contentOf : List ℕ → Envelope → Content
-contentOf s e = content (idIn s e) (joined (warningsIn s e)) (lengthsOf (warningsIn s e)) (bodyIn s e)
 
 -- ---- the header
 
@@ -175,11 +166,6 @@ module _ (s : List ℕ) (b : Bytes s) (h : Header) (at : ℕ) (room : at ≤ len
           }
 
 -- ---- the whole
-
--- what the writer is given says that nothing speaks against it, and its bytes are those of the envelope
-pub record WrittenAgain (s : List ℕ) (e : Envelope) : Type 0 where
-  pub check : envelopeCheck (e .header) (contentOf s e) ≡ fine
-  pub bytes : envelopeBytes (e .header) (contentOf s e) ≡ take (e .size) s
 
 module _ (s : List ℕ) (b : Bytes s) {e : Envelope} (q : envelope s ≡ whole e) where
   met : Found s e

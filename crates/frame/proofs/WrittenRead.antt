@@ -18,26 +18,18 @@ use Rattle.types.specs.Number.{be, digits}
 use Rattle.types.specs.Read.{place, Strings, strings, bytesIn, natural, stringsAt, textsIn}
 use Rattle.types.specs.Write.{fine, cutBy, listBytes, listCheck, Wrote}
 use Rattle.types.proofs.BigEndian.{be-digits-fit}
-use Rattle.types.proofs.Holds.{Holds, holds-left, holds-right, holds-bytes, Stands, accepted}
+use Rattle.types.specs.ThereAndBack.{Holds, Stands}
+use Rattle.types.proofs.Holds.{holds-left, holds-right, holds-bytes, accepted}
 use Rattle.types.proofs.Lists.{list-texts, list-back}
 use Rattle.types.proofs.Reading.{natural-some}
 use Rattle.frame.specs.Header.{Header, headerOf, flag, hasId, hasWarnings, knownVersion}
 use Rattle.basis.specs.Front.{whole}
 use Rattle.frame.specs.Envelope.{declared, sizeOf, Envelope, envelopeWith, afterId, warningsAt, within, inside, envelope, idIn, bodyIn, textsOf, warningsIn}
 use Rattle.frame.specs.Write.{Content, idPart, warningsPart, tailBytes, clearedFlags, headerBytes, envelopeBytes, envelopeCheck, cleared, textsPart}
+use Rattle.frame.specs.ThereAndBack.{ReadBack}
 use Rattle.frame.proofs.Cases.{fits, size-is, read, within-is, warnings-there, warnings-none, envelope-inside}
 use Rattle.frame.proofs.Checked.{Fits, fields-fit, version-small, list-there, list-none, check-there, tail-length}
 use Rattle.frame.proofs.Laid.{header-length, envelope-length}
-
--- what bytes that begin with the envelope are read as
-pub record ReadBack (s : List ℕ) (h : Header) (c : Content) : Type 0 where
-  pub e : Envelope
-  pub reads : envelope s ≡ whole e
-  pub size : e .size ≡ length (envelopeBytes h c)
-  pub header : e .header ≡ cleared h
-  pub id : idIn s e ≡ idPart h (c .id)
-  pub warnings : warningsIn s e ≡ textsPart h c
-  pub body : bodyIn s e ≡ c .body
 
 -- ---- flags without 01
 

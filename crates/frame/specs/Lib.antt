@@ -3,4 +3,6 @@ pub mod Header
 pub mod Envelope
 pub mod Write
 pub mod Paper
-pub mod Inside
+pub mod Along
+pub mod ThereAndBack
+pub mod Private

@@ -10,7 +10,7 @@ ghost use Rattle.types.specs.Read.{bytesIn, stepAt};
 ghost use Rattle.frame.specs.Header.{idLength};
 ghost use Rattle.frame.specs.Envelope.{sizeOf, sizeNumber, idPlace, afterId, warningsAt, envelopeWith, readAs, inside, envelope};
 ghost use Rattle.frame.specs.Paper.{paperHeader, paperEnvelope, paperSize, paperReading};
-ghost use Rattle.frame.specs.Inside.{paperWarnings};
+ghost use Rattle.frame.specs.Private.Inside.{paperWarnings};
 use crate::Envelope;
 use crate::HEADER_LEN;
 use crate::Header;

@@ -6,7 +6,7 @@ ghost use Rattle.types.specs.Paper.{paperWritable, paperWritten};
 ghost use Rattle.types.specs.Write.{Wrote, fine, put};
 ghost use Rattle.frame.specs.Write.{content, idPart, warningsPart, headerBytes, envelopeBytes, maxBody, idFits, warningFits, flagsFit, headFits, firstByte, warningsCheck, envelopeCheck};
 ghost use Rattle.frame.specs.Paper.{paperHeader};
-ghost use Rattle.frame.specs.Inside.{capped, idSize, warningsSize, tailSize, Planned};
+ghost use Rattle.frame.specs.Private.Inside.{capped, idSize, warningsSize, tailSize, Planned};
 use crate::Direction;
 use crate::HEADER_LEN;
 use crate::Header;

@@ -9,7 +9,7 @@ use Rattle.types.proofs.Cut.{both-true}
 use Rattle.segment.specs.Header.{Form, headerLength}
 use Rattle.segment.specs.Segment.{maxPayload, segmentLength}
 use Rattle.frame_decoder.specs.Reader.{Phase, inHeader, inRest, inSegment, inReassembly, stopped, Reader, minSegment, maxSegment, minReassembly, maxReassembly, between, lentFits, payloadFits, countsFit, admissible}
-use Rattle.frame_decoder.specs.Inside.{Counts, Admitted}
+use Rattle.frame_decoder.specs.Private.Inside.{Counts, Admitted}
 
 pub between-true : (least most n : ℕ) → between least most n ≡ true → (least ≤ n) × (n ≤ most)
 between-true least most n e =

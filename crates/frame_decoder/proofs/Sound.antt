@@ -22,7 +22,7 @@ use Rattle.frame.specs.Envelope.{Envelope, envelope}
 use Rattle.frame.proofs.Bounds.{within-bytes}
 use Rattle.frame_decoder.specs.Reader.{Phase, inHeader, inRest, inSegment, inReassembly, stopped, Reader, keeping, inPhase, leftover}
 use Rattle.frame_decoder.specs.Settle.{Due, due, waits, Settled, refusing, headerDue, leftoverDue, fromSegment, readSegment, fromPending, readPending, readAlone, readJoined, received, segmentDue, settleAt, settle}
-use Rattle.frame_decoder.specs.Inside.{Counts, Admitted, wanted}
+use Rattle.frame_decoder.specs.Private.Inside.{Counts, Admitted, wanted}
 
 abbrev pub Sound : ℕ → ℕ → Due → List ℕ → Type 0
 Sound a b (due answer r) reassembly = Admitted r a b × (length reassembly ≡ b)

@@ -18,7 +18,7 @@ use Rattle.segment.proofs.HeaderLaid.{head-most}
 use Rattle.frame_decoder.specs.Reader.{Phase, inHeader, inRest, inSegment, inReassembly, stopped, Reader, inPhase, Answer, more}
 use Rattle.frame_decoder.specs.Settle.{Due, due, waits, Settled, settled, headerDue, segmentDue, settleAt, settle}
 use Rattle.frame_decoder.specs.Call.{Outcome, outcome, stored, grown, pushed, unlessDue, work}
-use Rattle.frame_decoder.specs.Inside.{Counts, Admitted, wanted, Roomy, Onward}
+use Rattle.frame_decoder.specs.Private.Inside.{Counts, Admitted, wanted, Roomy, Onward}
 use Rattle.frame_decoder.proofs.Parts.{segment-cut}
 use Rattle.frame_decoder.proofs.Sound.{Sound, settle-sound}
 

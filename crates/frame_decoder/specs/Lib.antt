@@ -3,4 +3,4 @@ pub mod Reader
 pub mod Settle
 pub mod Call
 pub mod Paper
-pub mod Inside
+pub mod Private

@@ -13,7 +13,7 @@ ghost use Rattle.segment.specs.Segment.{trailerLength, segmentLength, headerAt,
 ghost use Rattle.segment.specs.Paper.{paperForm, paperHeader};
 ghost use Rattle.frame_decoder.specs.Settle.{settled, refusing, headerDue, leftoverDue, readSegment, movedDown, readPending, readJoined, segmentDue, settle};
 ghost use Rattle.frame_decoder.specs.Paper.{paperReader};
-ghost use Rattle.frame_decoder.specs.Inside.{paperDue, Admitted};
+ghost use Rattle.frame_decoder.specs.Private.Inside.{paperDue, Admitted};
 use crate::Answer;
 use crate::Buffer;
 use crate::Phase;

@@ -6,7 +6,7 @@ ghost use Rattle.types.specs.Write.{put};
 ghost use Rattle.segment.specs.Paper.{paperForm};
 ghost use Rattle.frame_decoder.specs.Call.{work};
 ghost use Rattle.frame_decoder.specs.Paper.{paperPhase, paperReader, paperStep};
-ghost use Rattle.frame_decoder.specs.Inside.{Admitted, Roomy, stepOf, FilledIs, TurnIs};
+ghost use Rattle.frame_decoder.specs.Private.Inside.{Admitted, Roomy, stepOf, FilledIs, TurnIs};
 use crate::Answer;
 use crate::Heard;
 use crate::Phase;

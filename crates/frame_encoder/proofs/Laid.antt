@@ -12,7 +12,8 @@ use Rattle.types.specs.Number.{part}
 use Rattle.types.specs.Write.{put}
 use Rattle.types.proofs.BigEndian.{length-part}
 use Rattle.types.proofs.Put.{length-front, length-put, put-then}
-use Rattle.types.proofs.Holds.{Holds, holds-part, holds-put, put-same}
+use Rattle.types.specs.ThereAndBack.{Holds}
+use Rattle.types.proofs.Holds.{holds-part, holds-put, put-same}
 use Rattle.segment.specs.LittleEndian.{leDigits}
 use Rattle.segment.specs.Header.{Form, header, headerLength, headerBytes}
 use Rattle.segment.specs.Segment.{trailerLength, trailerBytes, segmentLength, segmentBytes}

@@ -12,12 +12,13 @@ use Rattle.basis.specs.Front.{whole}
 use Rattle.types.specs.Number.{part}
 use Rattle.types.specs.Write.{put, Check, fine, against, joined}
 use Rattle.types.proofs.Put.{put-none, put-put, length-put, demanded}
-use Rattle.types.proofs.Holds.{Holds, holds-put}
+use Rattle.types.specs.ThereAndBack.{Holds}
+use Rattle.types.proofs.Holds.{holds-put}
 use Rattle.segment.specs.Header.{Form, headerLength}
 use Rattle.segment.specs.Segment.{maxPayload, segmentLength, segmentBytes, segment, segmentAt}
 use Rattle.segment.proofs.WrittenRead.{segment-back}
 use Rattle.frame_encoder.specs.Writer.{Writer, writer, fresh, Reply, wrote, refused, Done, done, unless, addCheck, add, finishCheck, finish, pieceOf, pieceCheck, piece}
-use Rattle.frame_encoder.specs.Runs.{Added, none-added, one-added, Split, all-sent, one-sent}
+use Rattle.frame_encoder.specs.Runs.{Added, none-added, one-added, Split, all-sent, one-sent, Sent, Joins, nothing, behind}
 use Rattle.frame_encoder.proofs.Checked.{AddFine, add-fine, FinishFine, finish-fine, PieceFine, piece-fine, piece-most, piece-some, unless-fine}
 use Rattle.frame_encoder.proofs.Laid.{segment-length, piece-laid}
 
@@ -101,12 +102,6 @@ packed w out (e ∷ es) {v = u} {end = end} small room (one-added {v = v} {mid =
     let one = packed-one w out e (joined es) ok (i .after) (i .output) (i .room) (i .small) in
     record { after = one .0; output = one .1; room = one .2; small = one .3 }
 
--- packed and finished they are one self-contained segment at the output's front, which is read back
-pub record Sent (form : Form) (self : Bool) (payload out end : List ℕ) (size : ℕ) : Type 0 where
-  pub output : end ≡ put out 0 (segmentBytes form self payload)
-  pub size-is : size ≡ length (segmentBytes form self payload)
-  pub reads : segmentAt form end ≡ whole (segment self payload)
-
 sent : (f : Form) (self : Bool) (payload out : List ℕ) {end : List ℕ} {size : ℕ} → length payload ≤ maxPayload → segmentLength f (length payload) ≤ length out
     → end ≡ put out 0 (segmentBytes f self payload) → size ≡ segmentLength f (length payload) → Sent f self payload out end size
 sent f self payload out {end} small room e s =
@@ -156,11 +151,6 @@ piece-segment f out envelope {v} {end} {size} {taken} e =
     (sym (ap (λ (d : Done). d .output) (a .1))) (sized (a .1) ∙ ap (segmentLength f) (sym l))
     in
     (subst (λ (k : ℕ). Sent f false (take k envelope) out end size) (sym t) s, t, sym (ap (λ (d : Done). d .after) (a .1)))
-
--- each output begins with a segment, and their payloads one after the other are the envelope
-pub data Joins (form : Form) : List (List ℕ) → List ℕ → Type 0 where
-  nothing : Joins form [] []
-  behind : {output payload rest : List ℕ} {others : List (List ℕ)} → segmentAt form output ≡ whole (segment false payload) → Joins form others rest → Joins form (output ∷ others) (payload ++ rest)
 
 pub split-joins : (f : Form) (envelope : List ℕ) (outputs : List (List ℕ)) → Split f envelope outputs → Joins f outputs envelope
 split-joins f [] [] all-sent = nothing

@@ -7,6 +7,7 @@ use native.Mathlib.Omega.{arith}
 use borrow.Author.Tests.{eq-eqb, ne-eqb, eqb-true, eqb-false}
 use lib.Dec.{eqb}
 use Rattle.segment.specs.Header.{Form, short, long, Header, header, lengths, numberLength, selfWeight, uncompressedOf, uncompressedPart, fieldsOf, numberOf}
+use Rattle.segment.specs.ThereAndBack.{Fits, usedBits}
 
 pub number-most : (f : Form) → numberLength f ≤ 5
 number-most short = omega arith
@@ -24,16 +25,6 @@ weight-most f false = omega arith
 pub part-most : (f : Form) (n : ℕ) → uncompressedPart f n < 2 ^ 34
 part-most short n = omega arith
 part-most long n = omega arith
-
--- lengths that 17 bits hold; the short form has no length before compression
-pub record Fits (f : Form) (h : Header) : Type 0 where
-  pub payload : h .payload < lengths
-  pub uncompressed : h .uncompressed < lengths
-  pub none : f ≡ short → h .uncompressed ≡ 0
-
--- the bits up to that of self-contained
-abbrev pub usedBits : Form → ℕ
-usedBits f = 2 * selfWeight f
 
 pub number-below : (f : Form) (h : Header) → numberOf f h < usedBits f
 unfolding numberOf

@@ -18,12 +18,9 @@ use Rattle.segment.specs.LittleEndian.{le, leDigits}
 use Rattle.segment.specs.Header.{Form, Header, header, numberLength, checkLength, headerLength, numberOf, headerNumber, headerBytes}
 use Rattle.segment.specs.Segment.{trailerLength, trailerBytes, segmentBytes, checked, headerAt, Segment, segment, segmentLength, payloadAt, segmentAt}
 use Rattle.segment.proofs.LittleEndian.{digits-le}
-use Rattle.segment.proofs.HeaderBits.{usedBits, number-forth}
+use Rattle.segment.specs.ThereAndBack.{usedBits, UnusedZero}
+use Rattle.segment.proofs.HeaderBits.{number-forth}
 use Rattle.segment.proofs.Cases.{fieldsAt, Headers, head-cut, head-differs, head-compressed, head-good, header-case, payloadIn, Payloads, payload-cut, payload-differs, payload-good, payload-case}
-
--- bits above that of self-contained are 0
-abbrev pub UnusedZero : Form → List ℕ → Type 0
-UnusedZero f s = le (take (numberLength f) s) < usedBits f
 
 -- ---- the header
 

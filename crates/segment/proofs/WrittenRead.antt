@@ -15,12 +15,14 @@ use Rattle.crc.proofs.Check24.{crc24-below}
 use Rattle.crc.proofs.Check32.{crc32-below}
 use Rattle.basis.specs.Bytes.{Bytes}
 use Rattle.types.specs.Number.{part}
-use Rattle.types.proofs.Holds.{Holds, holds-left, holds-right}
+use Rattle.types.specs.ThereAndBack.{Holds}
+use Rattle.types.proofs.Holds.{holds-left, holds-right}
 use Rattle.segment.specs.LittleEndian.{le, leDigits}
 use Rattle.segment.specs.Header.{Form, Header, header, numberLength, checkLength, headerLength, fieldsOf, numberOf, headerNumber, headerBytes}
 use Rattle.segment.specs.Segment.{trailerLength, maxPayload, trailerBytes, segmentBytes, checked, headerAt, segment, payloadAt, segmentAt}
 use Rattle.segment.proofs.LittleEndian.{length-le, bytes-le, le-digits-fit}
-use Rattle.segment.proofs.HeaderBits.{Fits, number-below, used-within, fields-back}
+use Rattle.segment.specs.ThereAndBack.{Fits}
+use Rattle.segment.proofs.HeaderBits.{number-below, used-within, fields-back}
 use Rattle.segment.proofs.HeaderLaid.{number-length, header-length}
 use Rattle.segment.proofs.Cases.{fieldsAt, head-good, header-is, payload-good, payload-is}
 

@@ -3,3 +3,4 @@ pub mod LittleEndian
 pub mod Header
 pub mod Segment
 pub mod Paper
+pub mod ThereAndBack

@@ -20,14 +20,14 @@ use Rattle.segment.proofs.HeaderLaid.{head-most}
 use Rattle.frame_decoder.specs.Reader.{Phase, inHeader, inRest, inSegment, inReassembly, stopped, Reader, inPhase, Answer, envelopeAt, leftover, more, refused, bytesAt, minSegment, maxSegment, minReassembly, maxReassembly, between, lentFits, payloadFits, countsFit, admissible}
 use Rattle.frame_decoder.specs.Settle.{Due, due, waits, Settled, settled, settle}
 use Rattle.frame_decoder.specs.Call.{Outcome, outcome, stored, grown, pushed, work, call}
-use Rattle.frame_decoder.specs.Inside.{Counts, Admitted, wanted}
+use Rattle.frame_decoder.specs.Private.Inside.{Counts, Admitted, wanted}
 use Rattle.frame_decoder.proofs.Admits.{between-true, admitted}
 use Rattle.frame_decoder.proofs.Sound.{Sound, settle-sound}
 use Rattle.frame_decoder.proofs.Works.{work-due, work-more, work-push}
 use Rattle.stream.specs.Meaning.{Lent, Said, envelopeOf, leftoverOf, Meaning, says, refusedAfter, segmentIn, judged, meaningFrom}
 use Rattle.stream.specs.Caller.{undelivered}
 use Rattle.stream.specs.Collect.{saidLength}
-use Rattle.stream.specs.Inside.{lentOf, judging, restAt, rest, Agrees, Ready}
+use Rattle.stream.specs.Private.Inside.{lentOf, judging, restAt, rest, Agrees, Ready}
 use Rattle.stream.proofs.Lists.{take-put}
 use Rattle.stream.proofs.Heads.{header-behind, in-header, roomy-header}
 use Rattle.stream.proofs.Rest.{Speaks, Stops, Waits, Tells, settle-tells}

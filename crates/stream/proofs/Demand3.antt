@@ -12,13 +12,13 @@ use Rattle.segment.specs.Header.{Form}
 use Rattle.segment.specs.Segment.{segmentLength, maxPayload}
 use Rattle.segment.proofs.HeaderLaid.{head-most}
 use Rattle.frame_decoder.specs.Reader.{Phase, inHeader, inRest, inSegment, inReassembly, stopped, Reader, fresh, heldIn, held, admissible}
-use Rattle.frame_decoder.specs.Inside.{Counts}
+use Rattle.frame_decoder.specs.Private.Inside.{Counts}
 use Rattle.stream.specs.Meaning.{lent, Said, Meaning, refusedAfter, meaning}
 use Rattle.stream.specs.Caller.{inRange, segmentHeld, pendingHeld, Hears}
 use Rattle.stream.specs.Legal.{Legal, exactly, Suffices}
 use Rattle.stream.specs.Sent.{Given, Sends, PiecesFit, AllBack}
 use Rattle.stream.specs.Collect.{Tape, blank, collected, Ending, heldEnd, endOf, heardOf, HeardAs}
-use Rattle.stream.specs.Inside.{Ready}
+use Rattle.stream.specs.Private.Inside.{Ready}
 use Rattle.stream.proofs.Calls.{ready-admissible}
 use Rattle.stream.proofs.Pieces.{pieces-do-not-matter, pieces-are-heard}
 use Rattle.stream.proofs.Legal.{legal-means, fits-suffices}

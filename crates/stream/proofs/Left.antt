@@ -11,11 +11,11 @@ use Rattle.frame.specs.Envelope.{Envelope}
 use Rattle.frame_decoder.specs.Reader.{Phase, Reader, Buffer, Answer, envelopeAt, leftover, more, refused}
 use Rattle.frame_decoder.specs.Settle.{Due, due, waits, Settled, settled, settle}
 use Rattle.frame_decoder.specs.Call.{Outcome, outcome, stored, pushed, work, call}
-use Rattle.frame_decoder.specs.Inside.{Admitted, wanted}
+use Rattle.frame_decoder.specs.Private.Inside.{Admitted, wanted}
 use Rattle.frame_decoder.proofs.Sound.{Sound, settle-sound}
 use Rattle.frame_decoder.proofs.Works.{work-due, work-more, work-push, work-settled, settle-waits, roomy}
 use Rattle.stream.specs.Caller.{Leaves, left-by-more, left-by-refusal, left-after-envelope, left-after-leftover}
-use Rattle.stream.specs.Inside.{Agrees, Ready}
+use Rattle.stream.specs.Private.Inside.{Agrees, Ready}
 use Rattle.stream.proofs.Rest.{Tells, Waits, settle-tells}
 use Rattle.stream.proofs.Calls.{Called, Told, ready-y, call-works, called}
 

@@ -17,11 +17,11 @@ use Rattle.segment.proofs.Cases.{payload-cut, payload-is}
 use Rattle.segment.proofs.HeaderLaid.{head-least, head-most}
 use Rattle.frame_decoder.specs.Reader.{Phase, inHeader, inRest, inSegment, inReassembly, stopped, Reader, fresh, bytesAt, Answer, envelopeAt, leftover, more, refused, minSegment, maxSegment, minReassembly, maxReassembly, between, lentFits, countsFit, admissible}
 use Rattle.frame_decoder.specs.Call.{Outcome, outcome, call}
-use Rattle.frame_decoder.specs.Inside.{Counts, wanted}
+use Rattle.frame_decoder.specs.Private.Inside.{Counts, wanted}
 use Rattle.frame_decoder.proofs.Admits.{between-true}
 use Rattle.stream.specs.Meaning.{Lent, lent, Said, envelopeOf, leftoverOf, Meaning, says, refusedAfter, holding, segmentIn, judged, meaningFrom, meaning}
 use Rattle.stream.specs.Caller.{inRange, segmentHeld, pendingHeld, holds, Hears, all-given, hears-more, hears-envelope, hears-leftover, hears-refusal, UsedUp, by-more, by-refusal, after-envelope, after-leftover, undelivered}
-use Rattle.stream.specs.Inside.{lentOf, judging, restAt, rest, Agrees, Ready}
+use Rattle.stream.specs.Private.Inside.{lentOf, judging, restAt, rest, Agrees, Ready}
 use Rattle.stream.proofs.Heads.{in-header, roomy-header, nothing-seen}
 use Rattle.stream.proofs.Calls.{ready-admissible, admissible-ready, Spoken, Stopped, Waiting, Told, Called, call-refused, called}
 

@@ -24,12 +24,12 @@ use Rattle.frame.specs.Envelope.{Envelope, envelope}
 use Rattle.frame.proofs.Bounds.{nine-or-more, within-bytes}
 use Rattle.frame_decoder.specs.Reader.{Phase, inHeader, inRest, inSegment, inReassembly, stopped, Reader, keeping, inPhase, segmentBuffer, reassemblyBuffer, bytesAt, Answer, envelopeAt, leftover, more, refused, maxReassembly}
 use Rattle.frame_decoder.specs.Settle.{Due, due, waits, Settled, settled, refusing, headerDue, leftoverDue, fromSegment, readSegment, movedDown, fromPending, readPending, readAlone, readJoined, received, segmentDue, settleAt, settle}
-use Rattle.frame_decoder.specs.Inside.{Counts, Admitted}
+use Rattle.frame_decoder.specs.Private.Inside.{Counts, Admitted}
 use Rattle.frame_decoder.proofs.Parts.{part-taken}
 use Rattle.stream.specs.Meaning.{Lent, lent, Said, envelopeOf, leftoverOf, Meaning, says, refusedAfter, behindHeader, segmentIn, envelopesIn, dropping, bySegment, judged, meaningFrom}
 use Rattle.stream.specs.Caller.{undelivered}
 use Rattle.stream.specs.Collect.{saidLength}
-use Rattle.stream.specs.Inside.{lentOf, judging, restAt, rest, Agrees}
+use Rattle.stream.specs.Private.Inside.{lentOf, judging, restAt, rest, Agrees}
 use Rattle.stream.proofs.Lists.{part-rest, part-first, bytes-part, take-put}
 use Rattle.stream.proofs.Envelopes.{none-whole, first-refused, first-whole}
 use Rattle.stream.proofs.Heads.{by-header, roomy-header, nothing-seen}

@@ -10,18 +10,21 @@ use lib.Seq.{length-take-le, take-length}
 use Rattle.basis.specs.Front.{Front, whole, ifWhole}
 use Rattle.types.specs.Write.{Wrote, joined}
 use Rattle.types.proofs.BigEndian.{length-part}
-use Rattle.types.proofs.Holds.{Holds, Stands, accepted}
+use Rattle.types.specs.ThereAndBack.{Holds, Stands}
+use Rattle.types.proofs.Holds.{accepted}
 use Rattle.segment.specs.Header.{Form, Header, headerLength, fieldsOf}
 use Rattle.segment.specs.Segment.{Segment, segment, segmentLength, maxPayload, headerAt, payloadAt, segmentAt, segmentBytes}
 use Rattle.segment.proofs.ReadWritten.{header-found}
 use Rattle.frame.specs.Envelope.{Envelope, envelope, idIn, bodyIn, warningsIn}
 use Rattle.frame.specs.Write.{envelopeBytes, envelopeCheck}
-use Rattle.frame.proofs.WrittenRead.{ReadBack, written-back}
+use Rattle.frame.specs.ThereAndBack.{ReadBack}
+use Rattle.frame.proofs.WrittenRead.{written-back}
 use Rattle.frame_encoder.specs.Writer.{Writer, fresh, wrote, done, addCheck, finishCheck, add, finish, piece}
 use Rattle.frame_encoder.specs.Runs.{Added, none-added, one-added}
 use Rattle.frame_encoder.proofs.Checked.{AddFine, add-fine, FinishFine, finish-fine}
 use Rattle.frame_encoder.proofs.Laid.{segment-length}
-use Rattle.frame_encoder.proofs.Runs.{passed, Sent, packed-segment, piece-segment}
+use Rattle.frame_encoder.specs.Runs.{Sent}
+use Rattle.frame_encoder.proofs.Runs.{passed, packed-segment, piece-segment}
 use Rattle.stream.specs.Meaning.{Lent, Said, envelopeOf, leftoverOf}
 use Rattle.stream.specs.Legal.{Envelopes, no-envelope, one-envelope, WholeSegment, Run, no-segment, one-segment, Legal, legal-end, legal-alone, legal-run, RunFits, Fits}
 use Rattle.stream.specs.Sent.{Given, Written, WrittenAll, none-written, one-written, InPieces, all-out, one-out, Sends, nothing-sent, sends-packed, sends-pieces, PiecesFit, Back, AllBack}

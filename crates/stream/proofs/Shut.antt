@@ -13,7 +13,7 @@ use Rattle.basis.specs.Front.{incomplete, whole}
 use Rattle.types.specs.Number.{be, beFrom}
 use Rattle.types.specs.Read.{Place}
 use Rattle.types.specs.Write.{joined}
-use Rattle.types.proofs.Holds.{Holds}
+use Rattle.types.specs.ThereAndBack.{Holds}
 use Rattle.segment.specs.Header.{Form, short}
 use Rattle.segment.specs.Segment.{segmentLength, segmentBytes, maxPayload}
 use Rattle.segment.proofs.WrittenRead.{segment-back}
@@ -25,7 +25,7 @@ use Rattle.frame_decoder.specs.Call.{Outcome, outcome, call}
 use Rattle.stream.specs.Meaning.{Lent, lent, Said, envelopeOf, leftoverOf, Meaning, says, refusedAfter, holding, envelopesIn, dropping, meaningFrom, meaning}
 use Rattle.stream.specs.Caller.{inRange, holds, Hears, all-given, hears-more, hears-envelope, hears-leftover, hears-refusal}
 use Rattle.stream.specs.Legal.{Envelopes, no-envelope, one-envelope, WholeSegment, Legal, legal-end, legal-alone, saying, exactly}
-use Rattle.stream.specs.Inside.{Ready}
+use Rattle.stream.specs.Private.Inside.{Ready}
 use Rattle.stream.specs.Shut.{Reads, Keeps, RefusesEverything, NamesOneEnvelope, AsksForever, next, OnlyNods, P5, readingOfP5, P6, readingOfP6}
 use Rattle.stream.proofs.Calls.{admissible-ready, Called, Told, call-refused, called}
 use Rattle.stream.proofs.Legal.{legal-means, fits-suffices, segment-first, said-then}

@@ -15,12 +15,12 @@ use Rattle.segment.proofs.HeaderLaid.{head-most}
 use Rattle.frame.specs.Envelope.{Envelope}
 use Rattle.frame_decoder.specs.Reader.{Phase, inHeader, inRest, inSegment, inReassembly, stopped, Reader, fresh, Buffer, bytesAt, Answer, envelopeAt, leftover, more, refused, maxReassembly}
 use Rattle.frame_decoder.specs.Call.{Outcome, outcome, call}
-use Rattle.frame_decoder.specs.Inside.{Counts, wanted}
+use Rattle.frame_decoder.specs.Private.Inside.{Counts, wanted}
 use Rattle.stream.specs.Meaning.{Lent, lent, Said, envelopeOf, leftoverOf, Meaning, says, refusedAfter, holding, meaning}
 use Rattle.stream.specs.Caller.{inRange, segmentHeld, pendingHeld, holds, undelivered, Leaves, left-by-refusal}
 use Rattle.stream.specs.Collect.{bytesOf, markOf, Tape, blank, noted, collected, Ending, refusedEnd, heldEnd, endOf, heardOf, HeardAs}
-use Rattle.stream.specs.Inside.{rest, Agrees, Ready, Way, toHear, WillLeave, Going, Onward, Over, Wants, leftTo, filledOf}
-use Rattle.stream.specs.Turn.{PieceUsed, Answered}
+use Rattle.stream.specs.Private.Inside.{rest, Agrees, Ready, Way, toHear, WillLeave, Going, Onward, Over, Wants, leftTo, filledOf}
+use Rattle.stream.specs.Private.Turn.{PieceUsed, Answered}
 use Rattle.stream.proofs.Calls.{Spoken, Called, call-refused}
 use Rattle.stream.proofs.Left.{left-joined, left-refused, left-envelope, left-leftover, left-waiting}
 use Rattle.stream.proofs.Pieces.{told-by, holds-rest, fresh-ready, fresh-rest, out-of-range}

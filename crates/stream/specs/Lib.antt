@@ -5,7 +5,6 @@ pub mod Caller
 pub mod Legal
 pub mod Sent
 pub mod Collect
-pub mod Inside
 pub mod Paper
-pub mod Turn
 pub mod Shut
+pub mod Private

@@ -12,12 +12,9 @@ use Rattle.types.specs.Answer.{Answer, got, refused}
 use Rattle.types.specs.Number.{part}
 use Rattle.types.specs.Read.{place, bytesIn}
 use Rattle.types.specs.Write.{put, Check, fine, against, written, output, Wrote}
+use Rattle.types.specs.ThereAndBack.{Holds, Stands}
 use Rattle.types.proofs.Put.{length-put}
 use Rattle.types.proofs.Reading.{bytes-there}
-
-pub record Holds (s : List ℕ) (at : ℕ) (bs : List ℕ) : Type 0 where
-  pub room : at + length bs ≤ length s
-  pub is : part s at (length bs) ≡ bs
 
 -- whatever stands around
 pub holds-at : (p bs q : List ℕ) → Holds (p ++ (bs ++ q)) (length p) bs
@@ -111,12 +108,6 @@ holds-put out at bs h =
       room = omega arith;
       is = ap (take (length bs)) d ∙ take-append-seam bs (drop (at + length bs) out);
     }
-
--- bs may be written, they stand in `left` from `at` on, and `next` is the position behind them
-pub record Stands (check : Check) (at : ℕ) (bs : List ℕ) (left : List ℕ) (next : ℕ) : Type 0 where
-  pub nothing : check ≡ fine
-  pub holds : Holds left at bs
-  pub end : next ≡ at + length bs
 
 -- what a writer leaves that answers a position
 pub accepted : (check : Check) {out : List ℕ} {at : ℕ} {bs left : List ℕ} {next : ℕ} → Wrote check out at bs (got tt next) left → Stands check at bs left next

@@ -21,7 +21,8 @@ use Rattle.types.specs.Write.{Check, fine, demand, counted, countCheck, 
 use Rattle.types.proofs.BigEndian.{length-digits, digits-be, be-below, length-part, bytes-part}
 use Rattle.types.proofs.Put.{length-counted, demanded}
 use Rattle.types.proofs.Reading.{bytes-there, then-got}
-use Rattle.types.proofs.Holds.{Holds, holds-part, holds-join, Stands}
+use Rattle.types.specs.ThereAndBack.{Holds, Stands}
+use Rattle.types.proofs.Holds.{holds-part, holds-join}
 use Rattle.types.proofs.Found.{behind, got-next, got-refused, Found, number-found, signed-found, run-found, text-found, count-found, Counted, some-counted}
 
 -- ---- numbers, over the number of bytes and the width

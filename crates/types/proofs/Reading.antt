@@ -17,7 +17,7 @@ use Rattle.types.specs.Answer.{Answer, got, refused, andThen}
 use Rattle.types.specs.Number.{be, part}
 use Rattle.utf8.specs.Utf8.{utf8}
 use Rattle.types.specs.Read.{Place, place, Strings, strings, numberAt, signedAt, runAt, textAt, natural, countAt, stringAt, stringsAt, listed, stepAt, bytesIn}
-use Rattle.types.specs.Inside.{endOf}
+use Rattle.types.specs.Private.Inside.{endOf}
 
 -- behind what was read, and behind what was refused
 pub then-got : {A B : Type 0} {a : Answer A} (f : A → ℕ → Answer B) {v : A} {next : ℕ} → a ≡ got v next → andThen a f ≡ f v next

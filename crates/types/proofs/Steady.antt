@@ -19,6 +19,7 @@ use Rattle.types.specs.Answer.{Answer, got, refused, andThen}
 use Rattle.types.specs.Number.{be, part}
 use Rattle.utf8.specs.Utf8.{utf8}
 use Rattle.types.specs.Read.{Place, numberAt, signedAt, byteAt, shortAt, intAt, longAt, runAt, textAt, uuidAt, natural, countAt, longText, nullableRun, shortBytesAt, stringAt, longStringAt, bytesAt, strings, stringsAt, listed, stringListAt}
+use Rattle.types.specs.Steady.{Local, Steady}
 use Rattle.types.proofs.Reading.{then-got, then-refused, number-read, number-past, run-read, run-past, text-read, text-not, text-past}
 use Rattle.types.proofs.Found.{got-refused, got-next, refused-number, behind, number-found, run-found, text-found}
 
@@ -45,21 +46,6 @@ length-front k s =
     ]
 
 -- ---- what it means
-
--- from a position within the bytes
-pub record Local {A : Type 0} (read : List ℕ → ℕ → Answer A) : Type 0 where
-  -- it goes on, and not past the end
-  pub on : (s : List ℕ) (at : ℕ) {v : A} {next : ℕ} → read s at ≡ got v next → at ≤ next
-  pub inside : (s : List ℕ) (at : ℕ) {v : A} {next : ℕ} → at ≤ length s → read s at ≡ got v next → next ≤ length s
-  -- only what stands before the next position matters
-  pub same : (s t : List ℕ) (at : ℕ) {v : A} {next : ℕ} → read s at ≡ got v next → take next t ≡ take next s → next ≤ length t → read t at ≡ got v next
-  -- a refusal but 12 stays with more bytes behind
-  pub firm : (s q : List ℕ) (at : ℕ) {e : ℕ} → read s at ≡ refused e → (e ≡ 12) ⊎ (read (s ++ q) at ≡ refused e)
-
--- from any position
-pub record Steady {A : Type 0} (read : List ℕ → ℕ → Answer A) : Type 0 where
-  pub local : Local read
-  pub bounded : (s : List ℕ) (at : ℕ) {v : A} {next : ℕ} → read s at ≡ got v next → next ≤ length s
 
 -- ---- what follows
 

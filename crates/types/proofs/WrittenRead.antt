@@ -22,12 +22,9 @@ use Rattle.types.specs.Write.{Check, fine, demand, counted, countCheck, 
 use Rattle.types.proofs.BigEndian.{length-digits, be-digits-fit}
 use Rattle.types.proofs.Put.{length-counted}
 use Rattle.types.proofs.Reading.{then-got, number-read, signed-read, run-read, text-read, count-read, natural-some, natural-none}
-use Rattle.types.proofs.Holds.{Holds, holds-left, holds-right, holds-bytes, Stands, accepted}
+use Rattle.types.specs.ThereAndBack.{Holds, Stands, ReadsBack}
+use Rattle.types.proofs.Holds.{holds-left, holds-right, holds-bytes, accepted}
 use Rattle.types.proofs.Cut.{demand-fine}
-
--- wherever bs stand, they are read as a value (which may tell where they stand), and the position behind them
-abbrev pub ReadsBack : {A : Type 0} → (List ℕ → ℕ → Answer A) → List ℕ → (ℕ → A) → Type 0
-ReadsBack read bs value = (s : List ℕ) (at : ℕ) → Holds s at bs → read s at ≡ got (value at) (at + length bs)
 
 -- so what a writer accepted is read from the output that it left
 pub written-reads : {A : Type 0} (read : List ℕ → ℕ → Answer A) (check : Check) (bs : List ℕ) (value : ℕ → A) → (check ≡ fine → ReadsBack read bs value)

@@ -5,4 +5,6 @@ pub mod Read
 pub mod Write
 pub mod Along
 pub mod Paper
-pub mod Inside
+pub mod ThereAndBack
+pub mod Steady
+pub mod Private

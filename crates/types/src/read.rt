@@ -2,7 +2,7 @@
 ghost use mathlib.Core.Path.{_≡_};
 ghost use Rattle.types.specs.Read.{byteAt, shortAt, intAt, longAt, countAt, runAt, textAt, uuidAt, stringAt, longStringAt, shortBytesAt, bytesAt, stringsAt, stringListAt, stepAt};
 ghost use Rattle.types.specs.Paper.{paperByte, paperShort, paperInt, paperLong, paperPart, paperBytes, paperStrings, paperWalked};
-ghost use Rattle.types.specs.Inside.{paperCount, paperEnd, endOf};
+ghost use Rattle.types.specs.Private.Inside.{paperCount, paperEnd, endOf};
 use crate::Place;
 use crate::ReadByte;
 use crate::ReadBytes;

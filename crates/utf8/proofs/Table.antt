@@ -11,7 +11,7 @@ use borrow.Author.Tests.{le-leb, lt-leb}
 use lib.ListN.{length, drop, getD, drop-of-length-le}
 use lib.Seq.{drop-cons}
 use Rattle.utf8.specs.Utf8.{Range, tail, within, Row, rows, Want, wants, never, begin, step, after, whole, utf8}
-use Rattle.utf8.specs.Waiting.{tails}
+use Rattle.utf8.specs.Private.Waiting.{tails}
 
 -- ---- a range
 

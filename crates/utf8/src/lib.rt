@@ -1,7 +1,7 @@
 // UTF-8 as RFC 3629, section 4, has it.
 ghost use mathlib.Core.Path.{_≡_};
 ghost use Rattle.utf8.specs.Utf8.{begin, rows, step, whole, utf8};
-ghost use Rattle.utf8.specs.Waiting.{wantOf};
+ghost use Rattle.utf8.specs.Private.Waiting.{wantOf};
 
 // What is still to come of a character: nothing, so that a first byte may come; or a byte from low to high and then `more` bytes
 // from 80 to bf; or nothing can make it one.

@@ -6,7 +6,7 @@ use Rattle.segment.specs.Paper.{paperForm}
 use Rattle.frame_decoder.specs.Reader.{Reader}
 use Rattle.stream.specs.Collect.{blank}
 use Rattle.stream.specs.Paper.{tapeOf, paperEnd}
-use Rattle.stream.specs.Inside.{Way, Going, Over}
+use Rattle.stream.specs.Private.Inside.{Way, Going, Over}
 use Rattle.stream.proofs.Turns.{start-going, start-over, start-refused}
 use borrow.Author.Needs.{needs}
 use Rattle.stream.proofs.collect.Statement.{statement}

@@ -3,8 +3,8 @@ use Prim.Native.Nat.{ℕ, _-_}
 use mathlib.Core.Path.{_≡_, refl, subst, _∙_}
 use native.Mathlib.Omega.{arith}
 use lib.ListN.{length}
-use Rattle.stream.specs.Inside.{Going, Onward}
-use Rattle.stream.specs.Turn.{wayOf, UsedIs}
+use Rattle.stream.specs.Private.Inside.{Going, Onward}
+use Rattle.stream.specs.Private.Turn.{wayOf, UsedIs}
 use Rattle.stream.specs.declared.Used.{Used}
 use Rattle.stream.proofs.Turns.{onward-same, onward-then, onward-over}
 use borrow.Author.Needs.{needs}

@@ -3,7 +3,7 @@ use Prim.Native.Nat.{ℕ}
 use mathlib.Core.Path.{_≡_, ap, subst}
 use lib.ListN.{length}
 use Rattle.stream.specs.Paper.{tapeOf, paperEnd}
-use Rattle.stream.specs.Turn.{wayOf, UsedIs}
+use Rattle.stream.specs.Private.Turn.{wayOf, UsedIs}
 use Rattle.stream.specs.declared.Notes.{Notes}
 use Rattle.stream.specs.declared.End.{End}
 use Rattle.stream.specs.declared.Used.{Used}

@@ -7,7 +7,7 @@ use lib.ListN.{length}
 use Rattle.frame_decoder.specs.Call.{outcome}
 use Rattle.frame_decoder.specs.Paper.{paperAnswer, paperReader}
 use Rattle.frame_decoder.specs.declared.Answer.{Answer}
-use Rattle.stream.specs.Turn.{wayOf}
+use Rattle.stream.specs.Private.Turn.{wayOf}
 use Rattle.stream.specs.Paper.{tapeOf}
 use Rattle.stream.proofs.Turns.{turn-within, envelope-turn, leftover-turn, leftover-small, more-turn, refused-turn}
 use borrow.Author.Needs.{needs}

@@ -2,8 +2,8 @@
 use Prim.Native.Nat.{ℕ, _≤_}
 use mathlib.Core.Path.{_≡_, refl, subst, _∙_}
 use lib.ListN.{length}
-use Rattle.stream.specs.Inside.{Going, Onward, leftTo}
-use Rattle.stream.specs.Turn.{wayOf, TurnIs}
+use Rattle.stream.specs.Private.Inside.{Going, Onward, leftTo}
+use Rattle.stream.specs.Private.Turn.{wayOf, TurnIs}
 use Rattle.stream.specs.declared.Turn.{Turn}
 use Rattle.stream.proofs.Turns.{onward-same, onward-then, onward-over}
 use borrow.Author.Needs.{needs}

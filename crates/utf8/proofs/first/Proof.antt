@@ -2,7 +2,7 @@
 use mathlib.Core.Path.{sym, ap, _∙_}
 use native.Mathlib.Omega.{arith}
 use borrow.Author.Needs.{needs}
-use Rattle.utf8.specs.Waiting.{wantOf, tails}
+use Rattle.utf8.specs.Private.Waiting.{wantOf, tails}
 use Rattle.utf8.proofs.Table.{here, there, rising, begins, never-begins, never-begins-high}
 use Rattle.utf8.proofs.first.Statement.{statement}
 use Rattle.utf8.proofs.first.Tie as tie

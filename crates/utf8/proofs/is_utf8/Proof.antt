@@ -7,7 +7,7 @@ use borrow.Author.Needs.{needs}
 use native.Mathlib.Omega.{arith}
 use lib.ListN.{length, drop}
 use Rattle.utf8.specs.Utf8.{Want, wants, after}
-use Rattle.utf8.specs.Waiting.{wantOf}
+use Rattle.utf8.specs.Private.Waiting.{wantOf}
 use Rattle.utf8.proofs.Table.{after-next, utf8-end}
 use Rattle.utf8.proofs.is_utf8.Statement.{statement}
 use Rattle.utf8.proofs.is_utf8.Tie as tie

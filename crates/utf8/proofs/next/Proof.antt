@@ -3,7 +3,7 @@ use mathlib.Core.Path.{sym, ap, _∙_}
 use borrow.Author.Needs.{needs}
 use native.Mathlib.Omega.{arith}
 use Rattle.utf8.specs.Utf8.{wants, step}
-use Rattle.utf8.specs.Waiting.{wantOf}
+use Rattle.utf8.specs.Private.Waiting.{wantOf}
 use Rattle.utf8.proofs.Table.{tail-below, tail-above, tail-fits, tails-none, tails-more}
 use Rattle.utf8.proofs.next.Statement.{statement}
 use Rattle.utf8.proofs.next.Tie as tie

@@ -6,7 +6,7 @@ use denote.Enum.Declared.{tagOf}
 use lib.ListN.{length}
 use Rattle.basis.specs.Front.{whole}
 use Rattle.frame.specs.Envelope.{readAs}
-use Rattle.frame.specs.Inside.{paperWarnings}
+use Rattle.frame.specs.Private.Inside.{paperWarnings}
 use Rattle.frame.specs.Paper.{paperHeader}
 use Rattle.frame.specs.declared.read.Warnings.{Warnings}
 use Rattle.frame.proofs.Ends.{warnings-end}

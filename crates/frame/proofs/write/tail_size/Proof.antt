@@ -2,7 +2,7 @@
 use Prim.Native.Nat.{ℕ, _+_}
 use mathlib.Core.Path.{ap, ap₂, _∙_}
 use native.Mathlib.Omega.{arith}
-use Rattle.frame.specs.Inside.{capped, idSize, warningsSize}
+use Rattle.frame.specs.Private.Inside.{capped, idSize, warningsSize}
 use Rattle.frame.specs.Paper.{paperHeader}
 use Rattle.frame.proofs.Capped.{capped-most, capped-plus}
 use borrow.Author.Needs.{needs}

@@ -3,7 +3,7 @@ use Prim.Native.Nat.{ℕ, _+_}
 use mathlib.Core.Path.{sym, ap, _∙_}
 use mathlib.Core.Bool.{Bool, cond}
 use native.Mathlib.Omega.{arith}
-use Rattle.frame.specs.Inside.{capped}
+use Rattle.frame.specs.Private.Inside.{capped}
 use Rattle.frame.proofs.Capped.{capped-small, capped-most, capped-plus}
 use borrow.Author.Needs.{needs}
 use Rattle.frame.proofs.write.warnings_size.Statement.{statement}

@@ -4,7 +4,7 @@ use mathlib.Core.Path.{sym, ap, _∙_, subst}
 use Rattle.types.specs.Paper.{paperWritable}
 use Rattle.types.proofs.Put.{wrote-fine, wrote-against}
 use Rattle.frame.specs.Write.{content, maxBody}
-use Rattle.frame.specs.Inside.{Planned}
+use Rattle.frame.specs.Private.Inside.{Planned}
 use Rattle.frame.specs.Paper.{paperHeader}
 use Rattle.frame.proofs.Capped.{capped-within, capped-past}
 use Rattle.frame.proofs.Checked.{givenSize, head-unfit, body-long, warnings-unfit, all-fit}

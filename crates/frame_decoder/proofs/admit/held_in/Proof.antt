@@ -6,7 +6,7 @@ use Rattle.segment.specs.Paper.{paperForm}
 use Rattle.segment.proofs.HeaderLaid.{head-most}
 use Rattle.frame_decoder.specs.Reader.{heldIn}
 use Rattle.frame_decoder.specs.Paper.{paperPhase, paperReader}
-use Rattle.frame_decoder.specs.Inside.{Counts}
+use Rattle.frame_decoder.specs.Private.Inside.{Counts}
 use Rattle.frame_decoder.specs.declared.Phase.{Phase}
 use Rattle.frame_decoder.proofs.Admits.{admitted}
 use borrow.Author.Needs.{needs}

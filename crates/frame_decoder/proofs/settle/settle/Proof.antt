@@ -7,7 +7,7 @@ use Rattle.segment.specs.Paper.{paperForm}
 use Rattle.segment.proofs.HeaderLaid.{head-most}
 use Rattle.frame_decoder.specs.Settle.{Due, settled, settleAt, settle}
 use Rattle.frame_decoder.specs.Paper.{paperPhase, paperReader}
-use Rattle.frame_decoder.specs.Inside.{Counts}
+use Rattle.frame_decoder.specs.Private.Inside.{Counts}
 use Rattle.frame_decoder.specs.declared.Phase.{Phase}
 use borrow.Author.Needs.{needs}
 use Rattle.frame_decoder.proofs.settle.settle.Statement.{statement}

@@ -9,7 +9,7 @@ use Rattle.segment.proofs.HeaderLaid.{head-most}
 use Rattle.frame_decoder.specs.Reader.{inPhase}
 use Rattle.frame_decoder.specs.Call.{stored, grown}
 use Rattle.frame_decoder.specs.Paper.{paperPhase, paperReader}
-use Rattle.frame_decoder.specs.Inside.{wanted, Roomy}
+use Rattle.frame_decoder.specs.Private.Inside.{wanted, Roomy}
 use Rattle.frame_decoder.specs.declared.Phase.{Phase}
 use Rattle.frame_decoder.proofs.Works.{stored-none, grown-none}
 use borrow.Author.Needs.{needs}

@@ -9,7 +9,7 @@ use Rattle.segment.specs.Paper.{paperForm}
 use Rattle.frame_decoder.specs.Settle.{settled}
 use Rattle.frame_decoder.specs.Call.{stored, work}
 use Rattle.frame_decoder.specs.Paper.{paperPhase, paperReader, paperStep}
-use Rattle.frame_decoder.specs.Inside.{paperDue, wanted}
+use Rattle.frame_decoder.specs.Private.Inside.{paperDue, wanted}
 use Rattle.frame_decoder.specs.declared.Step.{Step}
 use Rattle.frame_decoder.specs.declared.settle.Due.{Due}
 use Rattle.frame_decoder.proofs.Parts.{tail-part}

@@ -5,7 +5,7 @@ use native.Mathlib.Omega.{arith}
 use lib.ListN.{length, drop}
 use Rattle.frame_decoder.specs.Call.{work}
 use Rattle.frame_decoder.specs.Paper.{paperReader}
-use Rattle.frame_decoder.specs.Inside.{Admitted, TurnIs}
+use Rattle.frame_decoder.specs.Private.Inside.{Admitted, TurnIs}
 use Rattle.frame_decoder.specs.declared.work.Turn.{Turn}
 use borrow.Author.Needs.{needs}
 use Rattle.frame_decoder.proofs.work.work.Statement.{statement}

@@ -4,7 +4,7 @@ use mathlib.Core.Path.{sym, ap, _∙_}
 use borrow.Author.Needs.{needs}
 use mathlib.Core.Option.{some}
 use Rattle.types.specs.Answer.{got}
-use Rattle.types.specs.Inside.{paperCount}
+use Rattle.types.specs.Private.Inside.{paperCount}
 use Rattle.types.specs.Paper.{paperPart}
 use Rattle.types.specs.Read.{Place, bytesAt, nullableRun}
 use Rattle.types.proofs.Reading.{then-got, then-refused}

@@ -1,7 +1,7 @@
 -- `types::read::read_long_string` meets its contract: a count, its sign, and behind it the text. Assumes nothing.
 use mathlib.Core.Path.{sym, ap, _∙_}
 use borrow.Author.Needs.{needs}
-use Rattle.types.specs.Inside.{paperCount}
+use Rattle.types.specs.Private.Inside.{paperCount}
 use Rattle.types.specs.Read.{longStringAt, longText}
 use Rattle.types.proofs.Reading.{then-got, then-refused}
 use Rattle.types.proofs.read.read_long_string.Statement.{statement}

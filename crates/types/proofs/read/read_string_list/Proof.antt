@@ -1,7 +1,7 @@
 -- `types::read::read_string_list` meets its contract: a count, and behind it so many strings. Assumes nothing.
 use mathlib.Core.Path.{sym, ap, _∙_}
 use borrow.Author.Needs.{needs}
-use Rattle.types.specs.Inside.{paperEnd}
+use Rattle.types.specs.Private.Inside.{paperEnd}
 use Rattle.types.specs.Paper.{paperShort}
 use Rattle.types.specs.Read.{stringListAt, listed}
 use Rattle.types.proofs.Reading.{then-got, then-refused, listed-end, listed-refused}

@@ -3,7 +3,7 @@ use mathlib.Core.Path.{_≡_, refl, sym, ap, _∙_}
 use borrow.Author.Needs.{needs}
 use native.Mathlib.Omega.{arith}
 use Rattle.types.specs.Paper.{paperPart}
-use Rattle.types.specs.Inside.{endOf}
+use Rattle.types.specs.Private.Inside.{endOf}
 use Rattle.types.specs.Read.{stringsAt}
 use Rattle.types.proofs.Reading.{strings-go, strings-stop, strings-none}
 use Rattle.types.proofs.read.read_strings.Statement.{statement}

@@ -1,3 +1,4 @@
+-- What only the contracts of functions inside this crate cite, and proofs. No public promise speaks of it: a reader of the promises need not believe it.
 -- What is known inside the crate of a reader on its way through a stream. Assumes nothing.
 use Prim.Native.Nat.{ℕ, _+_, _-_, _≤_, _<_}
 use mathlib.Core.Path.{_≡_}
@@ -8,7 +9,7 @@ use Rattle.types.specs.Number.{part}
 use Rattle.segment.specs.Header.{Form, header, headerLength}
 use Rattle.segment.specs.Segment.{headerAt}
 use Rattle.frame_decoder.specs.Reader.{Phase, inHeader, inRest, inSegment, inReassembly, stopped, Reader, minReassembly}
-use Rattle.frame_decoder.specs.Inside.{Admitted, wanted}
+use Rattle.frame_decoder.specs.Private.Inside.{Admitted, wanted}
 use Rattle.stream.specs.Meaning.{Lent, lent, Meaning, refusedAfter, segmentIn, envelopesIn, dropping, judged, meaningFrom}
 use Rattle.stream.specs.Caller.{Leaves, undelivered}
 use Rattle.stream.specs.Collect.{Tape, collected, Ending, endOf}

@@ -1,10 +1,11 @@
+-- What only the contracts of functions inside this crate cite, and proofs. No public promise speaks of it: a reader of the promises need not believe it.
 -- What the turns of the caller's loop leave. Assumes nothing.
 use Prim.Native.Nat.{ℕ, _≤_, _<_}
 use mathlib.Core.Path.{_≡_}
 use mathlib.Core.List.{List}
 use Rattle.frame_decoder.specs.Paper.{paperReader}
 use Rattle.stream.specs.Paper.{tapeOf, paperEnd}
-use Rattle.stream.specs.Inside.{Way, Going, Onward, Over, Wants, leftTo}
+use Rattle.stream.specs.Private.Inside.{Way, Going, Onward, Over, Wants, leftTo}
 use Rattle.stream.specs.declared.Collected.{Collected}
 use Rattle.stream.specs.declared.Progress.{Progress}
 use Rattle.stream.specs.declared.Turn.{Turn}
