@@ -10,11 +10,18 @@ use Rattle.basis.specs.Determined.{Determined, DeterminedAs}
 use Rattle.basis.proofs.Determined.{by-equation, by-sight, by-meaning, told-apart}
 use Rattle.types.specs.Number.{digits}
 use Rattle.types.specs.Read.{byteAt, shortAt, intAt, longAt, uuidAt, shortBytesAt, stringAt, longStringAt, bytesAt, stringListAt, stepAt, bytesIn}
-use Rattle.types.specs.Write.{Check, fine, Wrote, counted, countCheck, textCheck, uuidCheck, bytesBytes, bytesCheck, maxShort, maxInt, cutBy, listBytes, listCheck}
+use Rattle.types.specs.Write.{put, Check, fine, Wrote, counted, countCheck, textCheck, bytesBytes, bytesCheck, maxShort, maxInt, cutBy, listBytes, listCheck}
 use Rattle.types.specs.Paper.{placeOf, paperWritten}
 use Rattle.types.specs.declared.Written.{Written}
-use Rattle.types.proofs.Told.{byte-told, short-told, int-told, long-told, part-told, bytes-told, strings-told, walked-told, written-told}
+use Rattle.types.proofs.Told.{byte-told, short-told, int-told, long-told, part-told, bytes-told, strings-told, walked-told, writable-told, written-told}
 use Rattle.types.proofs.part.Reads as hands
+use Rattle.types.proofs.inner.room.Reads as has-room
+use Rattle.types.proofs.inner.number.Reads as numbers
+use Rattle.types.proofs.inner.put_number.Reads as puts-number
+use Rattle.types.proofs.inner.put_bytes.Reads as puts-bytes
+use Rattle.types.proofs.inner.put_counted.Reads as puts-counted
+use Rattle.types.proofs.inner.check_list.Reads as checks-list
+use Rattle.types.proofs.inner.put_list.Reads as puts-list
 use Rattle.types.proofs.number.signed16.Reads as signs16
 use Rattle.types.proofs.number.signed32.Reads as signs32
 use Rattle.types.proofs.number.signed64.Reads as signs64
@@ -136,7 +143,7 @@ pub write-long-determined : DeterminedAs {Seen = Outcome} (λ κs r e. (r, e .0 
 write-long-determined = by-wrote (λ κs e. e .0 .now) (λ κs a. fine) (λ κs a. a .0 .now) (λ κs a. a .1 .0) (λ κs a. digits 8 (ofZ w64 (a .1 .1 .0)))
 
 pub write-uuid-determined : DeterminedAs {Seen = Outcome} (λ κs r e. (r, e .0 .now)) writes-uuid.Post
-write-uuid-determined = by-wrote (λ κs e. e .0 .now) (λ κs a. uuidCheck (a .1 .1 .0 .now)) (λ κs a. a .0 .now) (λ κs a. a .1 .0) (λ κs a. a .1 .1 .0 .now)
+write-uuid-determined = by-wrote (λ κs e. e .0 .now) (λ κs a. fine) (λ κs a. a .0 .now) (λ κs a. a .1 .0) (λ κs a. a .1 .1 .0)
 
 pub write-short-bytes-determined : DeterminedAs {Seen = Outcome} (λ κs r e. (r, e .0 .now)) writes-short-bytes.Post
 write-short-bytes-determined = by-wrote (λ κs e. e .0 .now) (λ κs a. countCheck maxShort (a .1 .1 .0 .now)) (λ κs a. a .0 .now) (λ κs a. a .1 .0) (λ κs a. counted 2 (a .1 .1 .0 .now))
@@ -155,3 +162,26 @@ write-null-determined = by-wrote (λ κs e. e .0 .now) (λ κs a. bytesCheck non
 
 pub write-string-list-determined : DeterminedAs {Seen = Outcome} (λ κs r e. (r, e .0 .now)) writes-list.Post
 write-string-list-determined = by-wrote (λ κs e. e .0 .now) (λ κs a. listCheck (a .1 .1 .0 .now) (a .1 .1 .1 .0 .now)) (λ κs a. a .0 .now) (λ κs a. a .1 .0) (λ κs a. listBytes (cutBy (a .1 .1 .0 .now) (a .1 .1 .1 .0 .now)))
+
+-- ---- what the crates share: of `room` and `number` the first half says all
+
+pub room-determined : Determined has-room.Post
+room-determined = record { same = λ κs a r s e f p q. p .0 ∙ sym (q .0) }
+
+pub number-determined : Determined numbers.Post
+number-determined = record { same = λ κs a r s e f p q. p .0 ∙ sym (q .0) }
+
+pub put-number-determined : DeterminedAs (λ κs r e. e .0 .now) puts-number.Post
+put-number-determined = by-sight (λ κs r e. e .0 .now) (λ κs a. put (a .0 .now) (a .1 .0) (digits (a .1 .1 .0) (a .1 .1 .1 .0)))
+
+pub put-bytes-determined : DeterminedAs (λ κs r e. e .0 .now) puts-bytes.Post
+put-bytes-determined = by-sight (λ κs r e. e .0 .now) (λ κs a. put (a .0 .now) (a .1 .0) (a .1 .1 .0 .now))
+
+pub put-counted-determined : DeterminedAs (λ κs r e. e .0 .now) puts-counted.Post
+put-counted-determined = by-sight (λ κs r e. e .0 .now) (λ κs a. put (a .0 .now) (a .1 .0) (counted (a .1 .1 .0) (a .1 .1 .1 .0 .now)))
+
+pub check-list-determined : Determined checks-list.Post
+check-list-determined = by-meaning writable-told (λ κs a. listCheck (a .0 .now) (a .1 .0 .now))
+
+pub put-list-determined : DeterminedAs (λ κs r e. e .0 .now) puts-list.Post
+put-list-determined = by-sight (λ κs r e. e .0 .now) (λ κs a. put (a .0 .now) (a .1 .0) (listBytes (cutBy (a .1 .1 .0 .now) (a .1 .1 .1 .0 .now))))

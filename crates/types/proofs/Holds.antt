@@ -125,6 +125,15 @@ accepted fine {out} {at} {bs} {left} {next} w = go (leb (at + length bs) (length
         }
     go false p e q = let z : _≡_ {A = ℕ} 0 1 = cc in let f : ⊥ = omega arith in absurd f
 
+-- what may be written is, where there is room
+pub wrote-there : {check : Check} {out : List ℕ} {at : ℕ} {bs : List ℕ} → check ≡ fine → at + length bs ≤ length out
+    → {answer : Answer Unit} {left : List ℕ} → Wrote check out at bs answer left → (answer ≡ got (tt {0}) (at + length bs)) × (left ≡ put out at bs)
+wrote-there {check} {out} {at} {bs} c h w =
+    let f : leb (at + length bs) (length out) ≡ true = le-leb (at + length bs) (length out) h in (
+      w .says ∙ ap (λ (k : Check). written k out at bs) c ∙ ap (λ (t : Bool). cond t (got (tt {0}) (at + length bs)) (refused 14)) f,
+      w .leaves ∙ ap (λ (k : Check). output k out at bs) c ∙ ap (λ (t : Bool). cond t (put out at bs) out) f,
+    )
+
 -- and what is written where it stands already changes nothing
 pub put-same : (s : List ℕ) (at : ℕ) (bs : List ℕ) → Holds s at bs → put s at bs ≡ s
 unfolding put
@@ -137,14 +146,6 @@ put-same s at bs h =
 
 pub written-again : {check : Check} {at : ℕ} {bs s : List ℕ} {next : ℕ} → Stands check at bs s next
     → {answer : Answer Unit} {left : List ℕ} → Wrote check s at bs answer left → (answer ≡ got (tt {0}) next) × (left ≡ s)
-written-again {check} {at} {bs} {s} {next} st {answer} {left} w =
-    let f : leb (at + length bs) (length s) ≡ true = le-leb (at + length bs) (length s) (st .holds .room) in (
-      w .says
-          ∙ ap (λ (c : Check). written c s at bs) (st .nothing)
-          ∙ ap (λ (t : Bool). cond t (got (tt {0}) (at + length bs)) (refused 14)) f
-          ∙ ap (got (tt {0})) (sym (st .end)),
-      w .leaves
-          ∙ ap (λ (c : Check). output c s at bs) (st .nothing)
-          ∙ ap (λ (t : Bool). cond t (put s at bs) s) f
-          ∙ put-same s at bs (st .holds),
-    )
+written-again {check} {at} {bs} {s} {next} st w =
+    let r = wrote-there (st .nothing) (st .holds .room) w in
+    (r .0 ∙ ap (got (tt {0})) (sym (st .end)), r .1 ∙ put-same s at bs (st .holds))

@@ -7,6 +7,7 @@ pub mod Holds
 pub mod WrittenRead
 pub mod ReadWritten
 pub mod Lists
+pub mod ThereAndBack
 pub mod Steady
 pub mod Refusing
 pub mod Walking

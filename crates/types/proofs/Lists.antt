@@ -5,9 +5,9 @@ use mathlib.Core.Bool.{Bool, true, _&&_}
 use mathlib.Core.List.{List, [], _∷_, _++_}
 use native.Mathlib.Omega.{arith}
 use native.Mathlib.Nat.{add-assoc, add-zero, add-sub-cancel-left}
-use lib.ListN.{length, take, drop, length-append, length-drop}
+use lib.ListN.{length, take, drop, length-append, length-drop, take-append-drop}
 use lib.Seq.{take-at, drop-at, length-take-le}
-use borrow.Author.Tests.{le-leb}
+use borrow.Author.Tests.{le-leb, eqb-true}
 use Rattle.basis.specs.Bytes.{Bytes}
 use Rattle.types.specs.Answer.{got, andThen}
 use Rattle.types.specs.Number.{digits}
@@ -101,6 +101,18 @@ pub list-back : (t ns : List ℕ) → listCheck t ns ≡ fine → ReadsBack stri
 unfolding stringListAt listed
 list-back t ns c s at h =
     then-got (listed s) (list-count t ns c s at h) ∙ then-got (λ ps next. got (strings (length ns) (at + 2)) next) (list-texts t ns c s at h .0)
+
+-- the pieces of a text, joined, are the text, and their lengths are those that cut it
+pub pieces-joined : (t ns : List ℕ) → lengthsFit (length t) ns ≡ true → (joined (cutBy t ns) ≡ t) × (lengthsOf (cutBy t ns) ≡ ns)
+unfolding cutBy joined lengthsOf
+pieces-joined [] [] f = (refl, refl)
+pieces-joined (x ∷ t) [] f = let z : suc (length t) ≡ 0 = eqb-true (suc (length t)) 0 (sym (fit-none (suc (length t))) ∙ f) in let n : ⊥ = omega arith in absurd n
+pieces-joined t (n ∷ ns) f =
+    let nx : Next (length t) n ns = next-of (length t) n ns f in
+    let rest = pieces-joined (drop n t) ns (ap (λ (k : ℕ). lengthsFit k ns) (length-drop n t) ∙ nx .fits) in (
+      ap (λ (l : List ℕ). take n t ++ l) (rest .0) ∙ take-append-drop n t,
+      ap₂ (λ (k : ℕ) (l : List ℕ). k ∷ l) (length-take-le n t (nx .within)) (rest .1),
+    )
 
 -- ---- read, then written
 

@@ -6,24 +6,24 @@ use mathlib.Core.List.{List}
 use mathlib.Core.Option.{Option, none, some}
 use native.Mathlib.Omega.{arith}
 use native.Mathlib.Nat.{add-assoc}
-use lib.IntN.{ℤ, negsuc}
+use lib.IntN.{ℤ, pos, negsuc}
 use lib.ListN.{length}
 use mir.Syntax.{Width, w32, w64}
 use mir.Val.{toZ, ofZ, Fits}
 use mir.ValLaws.{ofZ-toZ}
-use borrow.Author.Tests.{le-leb, eq-eqb}
+use borrow.Author.Tests.{le-leb}
 use Rattle.basis.specs.Bytes.{Bytes}
 use Rattle.types.specs.Answer.{got}
 use Rattle.types.specs.Number.{be, part, digits}
 use Rattle.utf8.specs.Utf8.{utf8}
-use Rattle.types.specs.Read.{Place, place, numberAt, signedAt, byteAt, shortAt, intAt, longAt, runAt, textAt, uuidAt, natural, countAt, longText, nullableRun, shortBytesAt, stringAt, longStringAt, bytesAt, bytesIn}
-use Rattle.types.specs.Write.{Check, fine, demand, counted, countCheck, textCheck, uuidCheck, bytesBytes, bytesCheck, maxShort, maxInt}
+use Rattle.types.specs.Read.{Place, place, numberAt, signedAt, shortAt, intAt, longAt, runAt, textAt, uuidAt, natural, countAt, longText, nullableRun, shortBytesAt, stringAt, longStringAt, bytesAt, bytesIn}
+use Rattle.types.specs.Write.{Check, fine, demand, counted, countCheck, textCheck, bytesBytes, bytesCheck, maxShort, maxInt}
 use Rattle.types.proofs.BigEndian.{length-digits, digits-be, be-below, length-part, bytes-part}
 use Rattle.types.proofs.Put.{length-counted, demanded}
 use Rattle.types.proofs.Reading.{bytes-there, then-got}
 use Rattle.types.specs.ThereAndBack.{Holds, Stands}
 use Rattle.types.proofs.Holds.{holds-part, holds-join}
-use Rattle.types.proofs.Found.{behind, got-next, got-refused, Found, number-found, signed-found, run-found, text-found, count-found, Counted, some-counted}
+use Rattle.types.proofs.Found.{behind, got-value, got-next, got-refused, Found, number-found, signed-found, run-found, text-found, count-found, Counted, some-counted}
 
 -- ---- numbers, over the number of bytes and the width
 
@@ -50,9 +50,6 @@ module _ (s : List ℕ) (b : Bytes s) (at n : ℕ) where
       digits-stand (f .room) (ap (ofZ w) (f .value) ∙ ofZ-toZ w (be (part s at n)) (fits below)) (f .ends)
 
 module _ (s : List ℕ) (b : Bytes s) (at : ℕ) where
-  pub byte-forth : {x end : ℕ} → byteAt s at ≡ got x end → Stands fine at (digits 1 x) s end
-  byte-forth = number-forth s b at 1
-
   pub short-forth : {x end : ℕ} → shortAt s at ≡ got x end → Stands fine at (digits 2 x) s end
   short-forth = number-forth s b at 2
 
@@ -68,16 +65,12 @@ module _ (s : List ℕ) (b : Bytes s) (at : ℕ) where
 found-bytes : {s : List ℕ} {at n : ℕ} {p : Place} {end : ℕ} → Found s at n (place at n) p end → bytesIn s p ≡ part s at n
 found-bytes {s} {at} {n} f = ap (bytesIn s) (f .value) ∙ bytes-there n s at (le-leb (at + n) (length s) (f .room))
 
-pub uuid-forth : (s : List ℕ) (at : ℕ) {p : Place} {end : ℕ} → uuidAt s at ≡ got p end → Stands (uuidCheck (bytesIn s p)) at (bytesIn s p) s end
+pub uuid-forth : (s : List ℕ) (at : ℕ) {p : Place} {end : ℕ} → uuidAt s at ≡ got p end → (length (bytesIn s p) ≡ 16) × Stands fine at (bytesIn s p) s end
 uuid-forth s at {p} {end} e =
     let f = run-found 16 s at e in
     let long : length (part s at 16) ≡ 16 = length-part s at 16 (f .room) in
-    subst (λ (l : List ℕ). Stands (uuidCheck l) at l s end) (sym (found-bytes f))
-    (record {
-      nothing = demanded 15 fine (eq-eqb (length (part s at 16)) 16 long);
-      holds = holds-part s at 16 (f .room);
-      end = f .ends ∙ ap (λ (k : ℕ). at + k) (sym long);
-    })
+    subst (λ (l : List ℕ). (length l ≡ 16) × Stands fine at l s end) (sym (found-bytes f))
+    (long, record { nothing = refl; holds = holds-part s at 16 (f .room); end = f .ends ∙ ap (λ (k : ℕ). at + k) (sym long) })
 
 -- a count and the bytes behind it, said once over the width of the count: c bytes whose count is the number of the n bytes before them
 module _ (s : List ℕ) (b : Bytes s) (at n c : ℕ) (count : c ≡ be (part s at n)) (first : at + n ≤ length s) {p : Place} {end : ℕ}
@@ -170,3 +163,19 @@ module _ (s : List ℕ) (b : Bytes s) (at : ℕ) where
   pub null-forth : {end : ℕ} → intAt s at ≡ got (negsuc 0) end → (bytesAt s at ≡ got none end) × Stands (bytesCheck none) at (bytesBytes none) s end
   unfolding bytesAt countAt
   null-forth i = (then-got (nullableRun s) (then-got (λ z next. got (natural z) next) i), int-forth s b at i)
+
+  -- and null was read from a negative count
+  pub null-negative : {end : ℕ} → bytesAt s at ≡ got none end → (k : ℕ) × (intAt s at ≡ got (negsuc k) end)
+  unfolding bytesAt countAt
+  null-negative {end} e =
+      let h = behind (countAt s at) (nullableRun s) e in
+      let i = behind (intAt s at) (λ z next. got (natural z) next) (h .first) in
+      by-count (i .value) (i .next) (i .first) (ap₂ (λ (c : Option ℕ) (k : ℕ). nullableRun s c k) (got-value (i .then)) (got-next (i .then)) ∙ h .then)
+    where
+      by-count : (z : ℤ) (next : ℕ) → intAt s at ≡ got z next → nullableRun s (natural z) next ≡ got none end → (k : ℕ) × (intAt s at ≡ got (negsuc k) end)
+      by-count (pos n) next i q =
+          let h = behind (runAt s n next) (λ p next. got (some p) next) q in
+          let z : _≡_ {A = ℕ} 0 1 = cc (h .then) in
+          let f : ⊥ = omega arith in
+          absurd f
+      by-count (negsuc k) next i q = (k, i ∙ ap (got (negsuc k)) (got-next q))

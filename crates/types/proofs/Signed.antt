@@ -24,16 +24,20 @@ half-le w32 = lit≤ tt
 half-le w64 = lit≤ tt
 half-le w128 = lit≤ tt
 
-pub bits-neg : (w : Width) (z : ℤ) → SFits w z → ltZ (toZ w (ofZ w z)) (pos zero) ≡ true
-    → toZ w ((2 ^ bits w - 1) - ofZ w z) ≡ pos ((2 ^ bits w - 1) - ofZ w z)
-bits-neg w (pos n) f t =
+-- of a negative number they are below the sign's bit
+pub turned-below : (w : Width) (z : ℤ) → SFits w z → ltZ (toZ w (ofZ w z)) (pos zero) ≡ true → (2 ^ bits w - 1) - ofZ w z < 2 ^ hbits w
+turned-below w (pos n) f t =
     let e : ltZ (pos n) (pos zero) ≡ true = ap (λ (y : ℤ). ltZ y (pos zero)) (sym (toZ-ofZ w (pos n) f)) ∙ t in
     let b : ⊥ = omega (arith, ltb-true n zero e) in
     absurd b
-bits-neg w (negsuc k) f t =
+turned-below w (negsuc k) f t =
     let h : k < 2 ^ hbits w = f .sfits in
     let p : 2 ^ hbits w ≤ 2 ^ bits w = half-le w in
-    toZ-pos w ((2 ^ bits w - 1) - (2 ^ bits w - suc k)) (omega arith)
+    omega arith
+
+pub bits-neg : (w : Width) (z : ℤ) → SFits w z → ltZ (toZ w (ofZ w z)) (pos zero) ≡ true
+    → toZ w ((2 ^ bits w - 1) - ofZ w z) ≡ pos ((2 ^ bits w - 1) - ofZ w z)
+bits-neg w z f t = toZ-pos w ((2 ^ bits w - 1) - ofZ w z) (turned-below w z f t)
 
 pub bits-pos : (w : Width) (z : ℤ) → SFits w z → ltZ (toZ w (ofZ w z)) (pos zero) ≡ false → toZ w (ofZ w z) ≡ pos (ofZ w z)
 bits-pos w (pos n) f t = toZ-pos w n (f .sfits)

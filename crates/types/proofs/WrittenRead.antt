@@ -1,5 +1,4 @@
--- Written, then read, for each notation: what a writer accepted is read back, with the position that the writer answered.
--- Assumes nothing.
+-- Written, then read, for each notation: wherever its bytes stand they are read as its value. Assumes nothing.
 use Prim.Native.Nat.{ℕ, _+_, _^_, _≤_, _<_}
 use mathlib.Core.Path.{_≡_, refl, sym, ap, ap₂, _∙_, subst}
 use mathlib.Core.Bool.{true}
@@ -7,31 +6,24 @@ use mathlib.Core.List.{List}
 use mathlib.Core.Option.{Option, none, some}
 use native.Mathlib.Omega.{arith}
 use native.Mathlib.Nat.{add-assoc}
-use lib.Dec.{leb, eqb}
+use lib.Dec.{leb}
 use lib.IntN.{ℤ}
 use lib.ListN.{length}
 use mir.Syntax.{Width, w32, w64}
 use mir.Val.{toZ, ofZ, SFits}
 use mir.ValLaws.{toZ-ofZ, ofZ-fits}
-use borrow.Author.Tests.{le-leb, leb-true, eqb-true}
+use borrow.Author.Tests.{le-leb, leb-true}
 use Rattle.types.specs.Answer.{Answer, got, andThen}
 use Rattle.types.specs.Number.{be, part, digits}
 use Rattle.utf8.specs.Utf8.{utf8}
-use Rattle.types.specs.Read.{Place, place, numberAt, signedAt, byteAt, shortAt, intAt, longAt, runAt, textAt, uuidAt, natural, countAt, longText, nullableRun, shortBytesAt, stringAt, longStringAt, bytesAt, bytesIn}
-use Rattle.types.specs.Write.{Check, fine, demand, counted, countCheck, textCheck, uuidCheck, bytesBytes, bytesCheck, maxShort, maxInt, Wrote}
+use Rattle.types.specs.Read.{Place, place, numberAt, signedAt, shortAt, intAt, longAt, runAt, textAt, uuidAt, natural, countAt, longText, nullableRun, shortBytesAt, stringAt, longStringAt, bytesAt, bytesIn}
+use Rattle.types.specs.Write.{fine, demand, counted, countCheck, textCheck, bytesBytes, bytesCheck, maxShort, maxInt}
 use Rattle.types.proofs.BigEndian.{length-digits, be-digits-fit}
 use Rattle.types.proofs.Put.{length-counted}
 use Rattle.types.proofs.Reading.{then-got, number-read, signed-read, run-read, text-read, count-read, natural-some, natural-none}
-use Rattle.types.specs.ThereAndBack.{Holds, Stands, ReadsBack}
-use Rattle.types.proofs.Holds.{holds-left, holds-right, holds-bytes, accepted}
+use Rattle.types.specs.ThereAndBack.{Holds, ReadsBack}
+use Rattle.types.proofs.Holds.{holds-left, holds-right, holds-bytes}
 use Rattle.types.proofs.Cut.{demand-fine}
-
--- so what a writer accepted is read from the output that it left
-pub written-reads : {A : Type 0} (read : List ℕ → ℕ → Answer A) (check : Check) (bs : List ℕ) (value : ℕ → A) → (check ≡ fine → ReadsBack read bs value)
-    → (out : List ℕ) (at : ℕ) (left : List ℕ) (next : ℕ) → Wrote check out at bs (got tt next) left → read left at ≡ got (value at) next
-written-reads read check bs value back out at left next w =
-    let a : Stands check at bs left next = accepted check w in
-    back (a .nothing) left at (a .holds) ∙ ap (got (value at)) (sym (a .end))
 
 -- ---- numbers, over the number of bytes and the width
 
@@ -52,9 +44,6 @@ signed-back w n z fits f s at h =
     signed-read n s at w (room-of (length-digits n (ofZ w z)) h)
     ∙ ap₂ (λ (v : ℤ) (k : ℕ). got v (at + k)) (ap (toZ w) (held-number s at n (ofZ w z) f h) ∙ toZ-ofZ w z fits) (sym (length-digits n (ofZ w z)))
 
-pub byte-back : (x : ℕ) → x < 256 → ReadsBack byteAt (digits 1 x) (λ at. x)
-byte-back x f = number-back 1 x f
-
 pub short-back : (x : ℕ) → x < 65536 → ReadsBack shortAt (digits 2 x) (λ at. x)
 short-back x f = number-back 2 x f
 
@@ -66,10 +55,8 @@ long-back z f = signed-back w64 8 z f (ofZ-fits w64 z f .fits)
 
 -- ---- bytes and texts
 
-pub uuid-back : (t : List ℕ) → uuidCheck t ≡ fine → ReadsBack uuidAt t (λ at. place at 16)
-uuid-back t c s at h =
-    let e : length t ≡ 16 = eqb-true (length t) 16 (demand-fine (eqb (length t) 16) 15 fine c .0) in
-    run-read 16 s at (room-of e h) ∙ ap (λ (k : ℕ). got (place at 16) (at + k)) (sym e)
+pub uuid-back : (t : List ℕ) → length t ≡ 16 → ReadsBack uuidAt t (λ at. place at 16)
+uuid-back t e s at h = run-read 16 s at (room-of e h) ∙ ap (λ (k : ℕ). got (place at 16) (at + k)) (sym e)
 
 -- a count and what is counted, said once over the width of the count and over what is read behind it
 module _ (n : ℕ) (t : List ℕ) (s : List ℕ) (at : ℕ) where

@@ -5,6 +5,7 @@ pub mod Read
 pub mod Write
 pub mod Along
 pub mod Paper
+pub mod Notation
 pub mod ThereAndBack
 pub mod Steady
 pub mod Private

@@ -115,6 +115,10 @@ unfoldable pub textsIn : List ℕ → List Place → List (List ℕ)
 textsIn s [] = []
 textsIn s (p ∷ ps) = bytesIn s p ∷ textsIn s ps
 
+abbrev pub textsOf : List ℕ → Answer (List Place) → List (List ℕ)
+textsOf s (got ps next) = textsIn s ps
+textsOf s (refused number) = []
+
 -- [string list]
 unfoldable pub listed : List ℕ → ℕ → ℕ → Answer Strings
 listed s n start = andThen (stringsAt s n start) (λ ps next. got (strings n start) next)

@@ -61,10 +61,6 @@ countCheck limit t = demand (leb (length t) limit) 15 fine
 abbrev pub textCheck : ℕ → List ℕ → Check
 textCheck limit t = demand (leb (length t) limit) 15 (demand (utf8 t) 13 fine)
 
--- [uuid]
-abbrev pub uuidCheck : List ℕ → Check
-uuidCheck t = demand (eqb (length t) 16) 15 fine
-
 -- [bytes]: null is the count -1, whose four bytes are ff
 abbrev pub bytesBytes : Option (List ℕ) → List ℕ
 bytesBytes none = digits 4 0xffff_ffff

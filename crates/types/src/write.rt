@@ -5,7 +5,7 @@ ghost use Prim.Native.Nat.{_+_, _≤_};
 ghost use mir.Syntax.{w32, w64};
 ghost use mir.Val.{ofZ};
 ghost use Rattle.types.specs.Number.{digits};
-ghost use Rattle.types.specs.Write.{Wrote, fine, counted, countCheck, textCheck, uuidCheck, bytesBytes, bytesCheck, maxShort, maxInt, cutBy, listBytes, listCheck};
+ghost use Rattle.types.specs.Write.{Wrote, fine, counted, countCheck, textCheck, bytesBytes, bytesCheck, maxShort, maxInt, cutBy, listBytes, listCheck};
 ghost use Rattle.types.specs.Paper.{paperWritable, paperWritten};
 use crate::MAX_INT;
 use crate::MAX_SHORT;
@@ -58,10 +58,10 @@ pub fn write_long(out: &mut [u8], at: usize, x: i64) -> Written
 fn write_run(out: &mut [u8], at: usize, bytes: &[u8]) -> Written
     ensures { λ r. ⌜ Wrote fine (now (out .entry)) at (now (bytes .entry)) (paperWritten r) (now (out .exit)) ⌝ }
 {
-    let n = bytes.len();
-    if inner::room(out.len(), at, n) {
+    let len = bytes.len();
+    if inner::room(out.len(), at, len) {
         inner::put_bytes(out, at, bytes);
-        let next = at + n;
+        let next = at + len;
         Written::Next(next)
     } else {
         Written::Refused(Refusal::OutputTooShort)
@@ -83,13 +83,10 @@ fn write_counted(out: &mut [u8], at: usize, n: usize, bytes: &[u8]) -> Written
     }
 }
 
-pub fn write_uuid(out: &mut [u8], at: usize, id: &[u8]) -> Written
-    ensures { λ r. ⌜ Wrote (uuidCheck (now (id .entry))) (now (out .entry)) at (now (id .entry)) (paperWritten r) (now (out .exit)) ⌝ }
+pub fn write_uuid(out: &mut [u8], at: usize, id: [u8; 16]) -> Written
+    ensures { λ r. ⌜ Wrote fine (now (out .entry)) at id (paperWritten r) (now (out .exit)) ⌝ }
 {
-    if id.len() == 16 {
-        return write_run(out, at, id);
-    }
-    Written::Refused(Refusal::NotWritable)
+    write_run(out, at, &id)
 }
 
 pub fn write_short_bytes(out: &mut [u8], at: usize, bytes: &[u8]) -> Written
