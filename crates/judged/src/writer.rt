@@ -40,9 +40,16 @@ pub extern "C" fn judged_write_number(
     put_written(said, written_number(kind, out, at, bits));
 }
 
+// Of bytes that are not 16, which no host asks for, the first 16, with zeros for those that are not there.
+fn written_uuid(out: &mut [u8], at: usize, bytes: &[u8]) -> Written {
+    let mut id: [u8; 16] = [0; 16];
+    words::copy(&mut id, bytes);
+    write::write_uuid(out, at, id)
+}
+
 fn written_bytes(kind: usize, out: &mut [u8], at: usize, bytes: &[u8]) -> Written {
     match kind {
-        4 => write::write_uuid(out, at, bytes),
+        4 => written_uuid(out, at, bytes),
         5 => write::write_short_bytes(out, at, bytes),
         6 => write::write_string(out, at, bytes),
         7 => write::write_long_string(out, at, bytes),
