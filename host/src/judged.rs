@@ -580,7 +580,7 @@ pub fn write_number(kind: Notation, out: &mut [u8], at: usize, bits: u64) -> Wri
     }))
 }
 
-/// A [uuid], [short bytes], [string], [long string] or [bytes].
+/// A [uuid], which is 16 bytes, or [short bytes], [string], [long string] or [bytes].
 pub fn write_bytes(kind: Notation, out: &mut [u8], at: usize, bytes: &[u8]) -> Written {
     let (o, room, kind) = (out.as_mut_ptr(), out.len(), kind as usize);
     let (b, len) = (bytes.as_ptr(), bytes.len());

@@ -99,6 +99,7 @@ fn write(kind: Notation, out: &mut [u8], at: usize, word: &str) -> Option<Writte
             Some(judged::write_number(kind, out, at, bits))
         }
         Notation::StringList => None,
+        Notation::Uuid if bytes(word)?.len() != 16 => None,
         _ => Some(judged::write_bytes(kind, out, at, &bytes(word)?)),
     }
 }
