@@ -1,4 +1,5 @@
--- Each public function's contract leaves nothing open: a line for each. Of a writer, the answer and what the output then holds.
+-- Each public function's contract leaves nothing open: a line for each. Of a writer, the answer and what the output then holds. The lines of
+-- readers and writers are said in the words of specs/Notation.antt: so what is proved of a notation is about these contracts.
 -- Assumes nothing.
 use Prim.Native.Nat.{ℕ}
 use mathlib.Core.Path.{sym, ap₂, _∙_}
@@ -9,8 +10,9 @@ use mir.Val.{toZ, ofZ}
 use Rattle.basis.specs.Determined.{Determined, DeterminedAs}
 use Rattle.basis.proofs.Determined.{by-equation, by-sight, by-meaning, told-apart}
 use Rattle.types.specs.Number.{digits}
-use Rattle.types.specs.Read.{byteAt, shortAt, intAt, longAt, uuidAt, shortBytesAt, stringAt, longStringAt, bytesAt, stringListAt, stepAt, bytesIn}
-use Rattle.types.specs.Write.{put, Check, fine, Wrote, counted, countCheck, textCheck, bytesBytes, bytesCheck, maxShort, maxInt, cutBy, listBytes, listCheck}
+use Rattle.types.specs.Read.{stepAt, bytesIn}
+use Rattle.types.specs.Write.{put, Check, Wrote, counted, cutBy, listBytes, listCheck}
+use Rattle.types.specs.Notation.{byte, short, int, long, uuid, string, longString, stringList, bytes, shortBytes}
 use Rattle.types.specs.Paper.{placeOf, paperWritten}
 use Rattle.types.specs.declared.Written.{Written}
 use Rattle.types.proofs.Told.{byte-told, short-told, int-told, long-told, part-told, bytes-told, strings-told, walked-told, writable-told, written-told}
@@ -77,34 +79,34 @@ bits64-determined = by-equation (λ κs a. ofZ w64 (a .0))
 -- ---- readers
 
 pub read-byte-determined : Determined reads-byte.Post
-read-byte-determined = by-meaning byte-told (λ κs a. byteAt (a .0 .now) (a .1 .0))
+read-byte-determined = by-meaning byte-told (λ κs a. byte .read (a .0 .now) (a .1 .0))
 
 pub read-short-determined : Determined reads-short.Post
-read-short-determined = by-meaning short-told (λ κs a. shortAt (a .0 .now) (a .1 .0))
+read-short-determined = by-meaning short-told (λ κs a. short .read (a .0 .now) (a .1 .0))
 
 pub read-int-determined : Determined reads-int.Post
-read-int-determined = by-meaning int-told (λ κs a. intAt (a .0 .now) (a .1 .0))
+read-int-determined = by-meaning int-told (λ κs a. int .read (a .0 .now) (a .1 .0))
 
 pub read-long-determined : Determined reads-long.Post
-read-long-determined = by-meaning long-told (λ κs a. longAt (a .0 .now) (a .1 .0))
+read-long-determined = by-meaning long-told (λ κs a. long .read (a .0 .now) (a .1 .0))
 
 pub read-uuid-determined : Determined reads-uuid.Post
-read-uuid-determined = by-meaning part-told (λ κs a. uuidAt (a .0 .now) (a .1 .0))
+read-uuid-determined = by-meaning part-told (λ κs a. uuid .read (a .0 .now) (a .1 .0))
 
 pub read-short-bytes-determined : Determined reads-short-bytes.Post
-read-short-bytes-determined = by-meaning part-told (λ κs a. shortBytesAt (a .0 .now) (a .1 .0))
+read-short-bytes-determined = by-meaning part-told (λ κs a. shortBytes .read (a .0 .now) (a .1 .0))
 
 pub read-string-determined : Determined reads-string.Post
-read-string-determined = by-meaning part-told (λ κs a. stringAt (a .0 .now) (a .1 .0))
+read-string-determined = by-meaning part-told (λ κs a. string .read (a .0 .now) (a .1 .0))
 
 pub read-long-string-determined : Determined reads-long-string.Post
-read-long-string-determined = by-meaning part-told (λ κs a. longStringAt (a .0 .now) (a .1 .0))
+read-long-string-determined = by-meaning part-told (λ κs a. longString .read (a .0 .now) (a .1 .0))
 
 pub read-bytes-determined : Determined reads-bytes.Post
-read-bytes-determined = by-meaning bytes-told (λ κs a. bytesAt (a .0 .now) (a .1 .0))
+read-bytes-determined = by-meaning bytes-told (λ κs a. bytes .read (a .0 .now) (a .1 .0))
 
 pub read-string-list-determined : Determined reads-list.Post
-read-string-list-determined = by-meaning strings-told (λ κs a. stringListAt (a .0 .now) (a .1 .0))
+read-string-list-determined = by-meaning strings-told (λ κs a. stringList .read (a .0 .now) (a .1 .0))
 
 pub next-string-determined : Determined steps.Post
 next-string-determined = by-meaning walked-told (λ κs a. stepAt (a .0 .now) (a .1 .0 .left) (a .1 .0 .at))
@@ -131,37 +133,37 @@ by-wrote left check out at bs =
     pair r left = (r, left)
 
 pub write-byte-determined : DeterminedAs {Seen = Outcome} (λ κs r e. (r, e .0 .now)) writes-byte.Post
-write-byte-determined = by-wrote (λ κs e. e .0 .now) (λ κs a. fine) (λ κs a. a .0 .now) (λ κs a. a .1 .0) (λ κs a. digits 1 (a .1 .1 .0))
+write-byte-determined = by-wrote (λ κs e. e .0 .now) (λ κs a. byte .check (a .1 .1 .0)) (λ κs a. a .0 .now) (λ κs a. a .1 .0) (λ κs a. byte .written (a .1 .1 .0))
 
 pub write-short-determined : DeterminedAs {Seen = Outcome} (λ κs r e. (r, e .0 .now)) writes-short.Post
-write-short-determined = by-wrote (λ κs e. e .0 .now) (λ κs a. fine) (λ κs a. a .0 .now) (λ κs a. a .1 .0) (λ κs a. digits 2 (a .1 .1 .0))
+write-short-determined = by-wrote (λ κs e. e .0 .now) (λ κs a. short .check (a .1 .1 .0)) (λ κs a. a .0 .now) (λ κs a. a .1 .0) (λ κs a. short .written (a .1 .1 .0))
 
 pub write-int-determined : DeterminedAs {Seen = Outcome} (λ κs r e. (r, e .0 .now)) writes-int.Post
-write-int-determined = by-wrote (λ κs e. e .0 .now) (λ κs a. fine) (λ κs a. a .0 .now) (λ κs a. a .1 .0) (λ κs a. digits 4 (ofZ w32 (a .1 .1 .0)))
+write-int-determined = by-wrote (λ κs e. e .0 .now) (λ κs a. int .check (a .1 .1 .0)) (λ κs a. a .0 .now) (λ κs a. a .1 .0) (λ κs a. int .written (a .1 .1 .0))
 
 pub write-long-determined : DeterminedAs {Seen = Outcome} (λ κs r e. (r, e .0 .now)) writes-long.Post
-write-long-determined = by-wrote (λ κs e. e .0 .now) (λ κs a. fine) (λ κs a. a .0 .now) (λ κs a. a .1 .0) (λ κs a. digits 8 (ofZ w64 (a .1 .1 .0)))
+write-long-determined = by-wrote (λ κs e. e .0 .now) (λ κs a. long .check (a .1 .1 .0)) (λ κs a. a .0 .now) (λ κs a. a .1 .0) (λ κs a. long .written (a .1 .1 .0))
 
 pub write-uuid-determined : DeterminedAs {Seen = Outcome} (λ κs r e. (r, e .0 .now)) writes-uuid.Post
-write-uuid-determined = by-wrote (λ κs e. e .0 .now) (λ κs a. fine) (λ κs a. a .0 .now) (λ κs a. a .1 .0) (λ κs a. a .1 .1 .0)
+write-uuid-determined = by-wrote (λ κs e. e .0 .now) (λ κs a. uuid .check (a .1 .1 .0)) (λ κs a. a .0 .now) (λ κs a. a .1 .0) (λ κs a. uuid .written (a .1 .1 .0))
 
 pub write-short-bytes-determined : DeterminedAs {Seen = Outcome} (λ κs r e. (r, e .0 .now)) writes-short-bytes.Post
-write-short-bytes-determined = by-wrote (λ κs e. e .0 .now) (λ κs a. countCheck maxShort (a .1 .1 .0 .now)) (λ κs a. a .0 .now) (λ κs a. a .1 .0) (λ κs a. counted 2 (a .1 .1 .0 .now))
+write-short-bytes-determined = by-wrote (λ κs e. e .0 .now) (λ κs a. shortBytes .check (a .1 .1 .0 .now)) (λ κs a. a .0 .now) (λ κs a. a .1 .0) (λ κs a. shortBytes .written (a .1 .1 .0 .now))
 
 pub write-string-determined : DeterminedAs {Seen = Outcome} (λ κs r e. (r, e .0 .now)) writes-string.Post
-write-string-determined = by-wrote (λ κs e. e .0 .now) (λ κs a. textCheck maxShort (a .1 .1 .0 .now)) (λ κs a. a .0 .now) (λ κs a. a .1 .0) (λ κs a. counted 2 (a .1 .1 .0 .now))
+write-string-determined = by-wrote (λ κs e. e .0 .now) (λ κs a. string .check (a .1 .1 .0 .now)) (λ κs a. a .0 .now) (λ κs a. a .1 .0) (λ κs a. string .written (a .1 .1 .0 .now))
 
 pub write-long-string-determined : DeterminedAs {Seen = Outcome} (λ κs r e. (r, e .0 .now)) writes-long-string.Post
-write-long-string-determined = by-wrote (λ κs e. e .0 .now) (λ κs a. textCheck maxInt (a .1 .1 .0 .now)) (λ κs a. a .0 .now) (λ κs a. a .1 .0) (λ κs a. counted 4 (a .1 .1 .0 .now))
+write-long-string-determined = by-wrote (λ κs e. e .0 .now) (λ κs a. longString .check (a .1 .1 .0 .now)) (λ κs a. a .0 .now) (λ κs a. a .1 .0) (λ κs a. longString .written (a .1 .1 .0 .now))
 
 pub write-bytes-determined : DeterminedAs {Seen = Outcome} (λ κs r e. (r, e .0 .now)) writes-bytes.Post
-write-bytes-determined = by-wrote (λ κs e. e .0 .now) (λ κs a. bytesCheck (some (a .1 .1 .0 .now))) (λ κs a. a .0 .now) (λ κs a. a .1 .0) (λ κs a. bytesBytes (some (a .1 .1 .0 .now)))
+write-bytes-determined = by-wrote (λ κs e. e .0 .now) (λ κs a. bytes .check (some (a .1 .1 .0 .now))) (λ κs a. a .0 .now) (λ κs a. a .1 .0) (λ κs a. bytes .written (some (a .1 .1 .0 .now)))
 
 pub write-null-determined : DeterminedAs {Seen = Outcome} (λ κs r e. (r, e .0 .now)) writes-null.Post
-write-null-determined = by-wrote (λ κs e. e .0 .now) (λ κs a. bytesCheck none) (λ κs a. a .0 .now) (λ κs a. a .1 .0) (λ κs a. bytesBytes none)
+write-null-determined = by-wrote (λ κs e. e .0 .now) (λ κs a. bytes .check none) (λ κs a. a .0 .now) (λ κs a. a .1 .0) (λ κs a. bytes .written none)
 
 pub write-string-list-determined : DeterminedAs {Seen = Outcome} (λ κs r e. (r, e .0 .now)) writes-list.Post
-write-string-list-determined = by-wrote (λ κs e. e .0 .now) (λ κs a. listCheck (a .1 .1 .0 .now) (a .1 .1 .1 .0 .now)) (λ κs a. a .0 .now) (λ κs a. a .1 .0) (λ κs a. listBytes (cutBy (a .1 .1 .0 .now) (a .1 .1 .1 .0 .now)))
+write-string-list-determined = by-wrote (λ κs e. e .0 .now) (λ κs a. stringList .check (a .1 .1 .0 .now, a .1 .1 .1 .0 .now)) (λ κs a. a .0 .now) (λ κs a. a .1 .0) (λ κs a. stringList .written (a .1 .1 .0 .now, a .1 .1 .1 .0 .now))
 
 -- ---- what the crates share: of `room` and `number` the first half says all
 

@@ -21,8 +21,7 @@ use Rattle.types.proofs.Found.{behind, got-value, got-next, number-foun
 use Rattle.types.specs.ThereAndBack.{Holds, Stands}
 use Rattle.types.proofs.Holds.{holds-left, holds-right, holds-join}
 use Rattle.types.proofs.Cut.{both-true, Next, next-of, fit-goes-on, fit-none, length-cut, Writes, writes, list-apart}
-use Rattle.types.specs.ThereAndBack.{ReadsBack}
-use Rattle.types.proofs.WrittenRead.{TextFits, text-fits, string-back, short-back, content-back}
+use Rattle.types.proofs.WrittenRead.{ReadsBack, TextFits, text-fits, string-back, short-back, content-back}
 use Rattle.types.proofs.ReadWritten.{string-forth, short-forth, short-small}
 
 -- each text may be written as a string

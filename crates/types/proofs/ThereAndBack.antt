@@ -1,4 +1,5 @@
--- Written, then read, and read, then written, for each notation: docs/RULES.md, section 11. Assumes nothing.
+-- Written, then read, and read, then written, for each notation: docs/RULES.md, section 11. One notation more is one value more in
+-- specs/Notation.antt and two lines more here. Assumes nothing.
 use Prim.Native.Nat.{ℕ, _+_, _-_, _^_, _≤_, _<_}
 use mathlib.Core.Path.{_≡_, refl, sym, ap, ap₂, _∙_, subst}
 use mathlib.Core.List.{List}
@@ -17,12 +18,12 @@ use Rattle.types.specs.Number.{part}
 use Rattle.types.specs.Read.{Place, place, strings, signedAt, stringAt, longStringAt, shortBytesAt, bytesAt, bytesIn, textsIn, textsOf}
 use Rattle.types.specs.Write.{Check, fine, put, counted, countCheck, textCheck, bytesCheck, bytesBytes, maxShort, maxInt, cutBy, joined, lengthsOf, listBytes, listCheck}
 use Rattle.types.specs.Notation.{Notation, unsigned, behindCount, textAndLengths, byte, short, int, long, uuid, string, longString, stringList, bytes, shortBytes}
-use Rattle.types.specs.ThereAndBack.{Holds, Stands, ReadsBack, ReadAs, WrittenRead, ReadWritten}
+use Rattle.types.specs.ThereAndBack.{Holds, Stands, ReadAs, WrittenRead, ReadWritten}
 use Rattle.types.proofs.BigEndian.{be-below, length-part, bytes-part}
 use Rattle.types.proofs.Found.{number-found, signed-found}
 use Rattle.types.proofs.Holds.{holds-bytes, accepted, wrote-there, written-again}
 use Rattle.types.proofs.Cut.{writes}
-use Rattle.types.proofs.WrittenRead.{number-back, int-back, long-back, uuid-back, string-back, long-string-back, short-bytes-back, bytes-back, null-back, content-back}
+use Rattle.types.proofs.WrittenRead.{ReadsBack, number-back, int-back, long-back, uuid-back, string-back, long-string-back, short-bytes-back, bytes-back, null-back, content-back}
 use Rattle.types.proofs.ReadWritten.{number-forth, int-forth, long-forth, uuid-forth, string-forth, long-string-forth, short-bytes-forth, bytes-forth, null-forth, null-negative}
 use Rattle.types.proofs.Lists.{list-back, list-texts, pieces-joined, list-forth, cut-joined}
 

@@ -21,9 +21,13 @@ use Rattle.types.specs.Write.{fine, demand, counted, countCheck, textChe
 use Rattle.types.proofs.BigEndian.{length-digits, be-digits-fit}
 use Rattle.types.proofs.Put.{length-counted}
 use Rattle.types.proofs.Reading.{then-got, number-read, signed-read, run-read, text-read, count-read, natural-some, natural-none}
-use Rattle.types.specs.ThereAndBack.{Holds, ReadsBack}
+use Rattle.types.specs.ThereAndBack.{Holds}
 use Rattle.types.proofs.Holds.{holds-left, holds-right, holds-bytes}
 use Rattle.types.proofs.Cut.{demand-fine}
+
+-- wherever bs stand, they are read as a value (which may tell where they stand), and the position behind them
+abbrev pub ReadsBack : {A : Type 0} → (List ℕ → ℕ → Answer A) → List ℕ → (ℕ → A) → Type 0
+ReadsBack read bs value = (s : List ℕ) (at : ℕ) → Holds s at bs → read s at ≡ got (value at) (at + length bs)
 
 -- ---- numbers, over the number of bytes and the width
 

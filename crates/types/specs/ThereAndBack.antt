@@ -20,10 +20,6 @@ pub record Stands (check : Check) (at : ℕ) (bs : List ℕ) (left : List ℕ) (
   pub holds : Holds left at bs
   pub end : next ≡ at + length bs
 
--- wherever bs stand, they are read as a value (which may tell where they stand), and the position behind them
-abbrev pub ReadsBack : {A : Type 0} → (List ℕ → ℕ → Answer A) → List ℕ → (ℕ → A) → Type 0
-ReadsBack read bs value = (s : List ℕ) (at : ℕ) → Holds s at bs → read s at ≡ got (value at) (at + length bs)
-
 -- ---- 11.1, of any notation
 
 -- a content is read at a position, and `next` is behind it
