@@ -10,6 +10,7 @@ use lib.Dec.{leb, eqb}
 use lib.ListN.{length, take, drop, length-append, length-drop}
 use lib.Seq.{length-take-le}
 use Rattle.basis.specs.Front.{Front, incomplete, refuses, whole}
+use Rattle.basis.specs.Machine.{Reply, handsOn, asksMore, refusesWith, dated, says, refusedAfter}
 use Rattle.types.specs.Write.{put}
 use Rattle.types.proofs.Cut.{both-true}
 use Rattle.types.proofs.Put.{length-put}
@@ -17,20 +18,20 @@ use Rattle.segment.specs.Header.{Form, header, headerLength}
 use Rattle.segment.specs.Segment.{Segment, segmentLength, maxPayload, headerAt, payloadAt}
 use Rattle.segment.proofs.Cases.{payload-cut, payload-is}
 use Rattle.segment.proofs.HeaderLaid.{head-most}
-use Rattle.frame_decoder.specs.Reader.{Phase, inHeader, inRest, inSegment, inReassembly, stopped, Reader, inPhase, Answer, envelopeAt, leftover, more, refused, bytesAt, minSegment, maxSegment, minReassembly, maxReassembly, between, lentFits, payloadFits, countsFit, admissible}
+use Rattle.frame_decoder.specs.Reader.{Phase, inHeader, inRest, inSegment, inReassembly, stopped, Reader, inPhase, Answer, more, refused, minSegment, maxSegment, minReassembly, maxReassembly, between, lentFits, payloadFits, countsFit, admissible}
 use Rattle.frame_decoder.specs.Settle.{Due, due, waits, Settled, settled, settle}
 use Rattle.frame_decoder.specs.Call.{Outcome, outcome, stored, grown, pushed, work, call}
 use Rattle.frame_decoder.specs.Private.Inside.{Counts, Admitted, wanted}
 use Rattle.frame_decoder.proofs.Admits.{between-true, admitted}
 use Rattle.frame_decoder.proofs.Sound.{Sound, settle-sound}
 use Rattle.frame_decoder.proofs.Works.{work-due, work-more, work-push}
-use Rattle.stream.specs.Meaning.{Lent, Said, envelopeOf, leftoverOf, Meaning, says, refusedAfter, segmentIn, judged, meaningFrom}
-use Rattle.stream.specs.Caller.{undelivered}
+use Rattle.stream.specs.Meaning.{Lent, Said, segmentIn, judged, meaningFrom}
+use Rattle.stream.specs.Caller.{State, state, replyOf, undelivered}
 use Rattle.stream.specs.Collect.{saidLength}
-use Rattle.stream.specs.Private.Inside.{lentOf, judging, restAt, rest, Agrees, Ready}
+use Rattle.stream.specs.Private.Inside.{lentOf, judging, restAt, rest, Agrees, Untouched, Ready, Wants, ahead}
 use Rattle.stream.proofs.Lists.{take-put}
 use Rattle.stream.proofs.Heads.{header-behind, in-header, roomy-header}
-use Rattle.stream.proofs.Rest.{Speaks, Stops, Waits, Tells, settle-tells}
+use Rattle.stream.proofs.Rest.{Speaks, Stops, Waits, Replies, Tells, settle-tells}
 
 -- ---- readers that are not refused with 1
 
@@ -47,7 +48,7 @@ counts-fit f room pending (inReassembly at) k = le-leb at pending k
 counts-fit f room pending (stopped number) k = refl
 
 module _ (r : Reader) (seg re : List ℕ) where
-  pub ready-admissible : Ready r seg re → admissible r (length seg) (length re) ≡ true
+  pub ready-admissible : Ready (state r seg re) → admissible r (length seg) (length re) ≡ true
   unfolding admissible lentFits
   ready-admissible t =
       let a : ℕ = length seg in
@@ -57,7 +58,7 @@ module _ (r : Reader) (seg re : List ℕ) where
       (both (eq-eqb a (r .segment) (t .segment)) (eq-eqb b (r .reassembly) (t .reassembly))))
       (both (le-leb (r .pending) b (t .ok .held)) (counts-fit (r .form) a (r .pending) (r .phase) (t .ok .counts)))
 
-  pub admissible-ready : admissible r (length seg) (length re) ≡ true → Ready r seg re
+  pub admissible-ready : admissible r (length seg) (length re) ≡ true → Ready (state r seg re)
   unfolding admissible lentFits
   admissible-ready e =
       let a : ℕ = length seg in
@@ -134,39 +135,41 @@ module _ (r : Reader) (seg re : List ℕ) (b : ℕ) (cap : length seg ≡ r .seg
 
 -- ---- a call
 
-pub record Spoken (r : Reader) (seg re piece : List ℕ) (count : ℕ) (x : Said) (r′ : Reader) (seg′ re′ : List ℕ) : Type 0 where
+pub record Spoken (s : State) (piece : List ℕ) (count : ℕ) (x : Said) (t : State) : Type 0 where
   pub small : saidLength x ≤ maxReassembly
-  pub less : undelivered (r′ .pending) (r′ .phase) + length (drop count piece) < undelivered (r .pending) (r .phase) + length piece
-  pub agrees : Agrees (r .form) (r .phase) seg → Agrees (r′ .form) (r′ .phase) seg′
-  pub same : Agrees (r .form) (r .phase) seg → (taken : ℕ) (stream : List ℕ) → rest r seg re taken (piece ++ stream) ≡ says x (rest r′ seg′ re′ (taken + count) (drop count piece ++ stream))
+  pub less : ahead t + length (drop count piece) < ahead s + length piece
+  pub agrees : Untouched s → Untouched t
+  pub same : Untouched s → (taken : ℕ) (stream : List ℕ) → rest s taken (piece ++ stream) ≡ says (dated (taken + count) x) (rest t (taken + count) (drop count piece ++ stream))
 
-pub record Stopped (r : Reader) (seg re piece : List ℕ) (count number : ℕ) (r′ : Reader) : Type 0 where
-  pub stays : r′ .phase ≡ stopped number
-  pub same : Agrees (r .form) (r .phase) seg → (taken : ℕ) (stream : List ℕ) → rest r seg re taken (piece ++ stream) ≡ refusedAfter number (taken + count)
+pub record Stopped (s : State) (piece : List ℕ) (count number : ℕ) (t : State) : Type 0 where
+  pub stays : t .reader .phase ≡ stopped number
+  pub same : Untouched s → (taken : ℕ) (stream : List ℕ) → rest s taken (piece ++ stream) ≡ refusedAfter number (taken + count)
 
-pub record Waiting (r : Reader) (seg re piece : List ℕ) (count : ℕ) (r′ : Reader) (seg′ re′ : List ℕ) : Type 0 where
+pub record Waiting (s : State) (piece : List ℕ) (count : ℕ) (t : State) : Type 0 where
   pub all : count ≡ length piece
-  pub wanting : 0 < wanted (r′ .form) (r′ .phase)
-  pub agrees : Agrees (r .form) (r .phase) seg → Agrees (r′ .form) (r′ .phase) seg′
-  pub same : Agrees (r .form) (r .phase) seg → (taken : ℕ) (stream : List ℕ) → rest r seg re taken (piece ++ stream) ≡ rest r′ seg′ re′ (taken + count) stream
+  pub wanting : Wants t
+  pub agrees : Untouched s → Untouched t
+  pub same : Untouched s → (taken : ℕ) (stream : List ℕ) → rest s taken (piece ++ stream) ≡ rest t (taken + count) stream
 
-abbrev pub Told : Reader → List ℕ → List ℕ → List ℕ → ℕ → Answer → Reader → List ℕ → List ℕ → Type 0
-Told r seg re piece count (envelopeAt buffer at e) r′ seg′ re′ = Spoken r seg re piece count (envelopeOf (bytesAt buffer seg′ re′ at) e) r′ seg′ re′
-Told r seg re piece count (leftover n) r′ seg′ re′ = Spoken r seg re piece count (leftoverOf n) r′ seg′ re′
-Told r seg re piece count more r′ seg′ re′ = Waiting r seg re piece count r′ seg′ re′
-Told r seg re piece count (refused number) r′ seg′ re′ = Stopped r seg re piece count number r′
+abbrev pub Told : State → List ℕ → ℕ → Reply Said ℕ → State → Type 0
+Told s piece count (handsOn x) t = Spoken s piece count x t
+Told s piece count asksMore t = Waiting s piece count t
+Told s piece count (refusesWith number) t = Stopped s piece count number t
 
 -- so many bytes were taken before
-pub record Called (r : Reader) (seg re piece : List ℕ) (before : ℕ) (o : Outcome) : Type 0 where
+pub record Called (s : State) (piece : List ℕ) (before : ℕ) (o : Outcome) : Type 0 where
   pub count : ℕ
   pub is : o .taken ≡ before + count
   pub within : count ≤ length piece
-  pub ready : Ready (o .reader) (o .segment) (o .reassembly)
-  pub told : Told r seg re piece count (o .answer) (o .reader) (o .segment) (o .reassembly)
+  pub ready : Ready (state (o .reader) (o .segment) (o .reassembly))
+  pub told : Told s piece count (replyOf (o .answer) (o .segment) (o .reassembly)) (state (o .reader) (o .segment) (o .reassembly))
 
-module _ (r : Reader) (seg re : List ℕ) (t : Ready r seg re) where
+module _ (r : Reader) (seg re : List ℕ) (t : Ready (state r seg re)) where
+  abbrev here : State
+  here = state r seg re
+
   -- what settling leaves is ready again
-  ready-settled : {x : Reader} {re′ : List ℕ} → lentOf x ≡ lentOf r → Admitted x (length seg) (length re) → length re′ ≡ length re → Ready x seg re′
+  ready-settled : {x : Reader} {re′ : List ℕ} → lentOf x ≡ lentOf r → Admitted x (length seg) (length re) → length re′ ≡ length re → Ready (state x seg re′)
   ready-settled {x} {re′} l ok e =
       record {
         segment = t .segment ∙ sym (ap (λ (y : Lent). y .segment) l);
@@ -175,47 +178,38 @@ module _ (r : Reader) (seg re : List ℕ) (t : Ready r seg re) where
         ok = subst (λ (n : ℕ). Admitted x (length seg) n) (sym e) ok;
       }
 
-  spoken-at-once : (piece : List ℕ) (said : Said) (x : Reader) (re′ : List ℕ) → Speaks r (r .phase) seg re said x re′ → Spoken r seg re piece 0 said x seg re′
-  spoken-at-once piece said x re′ d =
+  -- an answer that is due at once
+  told-at-once : (piece : List ℕ) (reply : Reply Said ℕ) (x : Reader) (re′ : List ℕ) → Replies r (r .phase) seg re reply x re′ → Told here piece 0 reply (state x seg re′)
+  told-at-once piece (handsOn said) x re′ d =
       record {
         small = d .small;
         less = omega (arith, d .less);
         agrees = λ a. d .agrees;
-        same = λ a taken stream. d .same a taken (piece ++ stream) ∙ ap (λ (k : ℕ). says said (rest x seg re′ k (piece ++ stream))) (sym (add-zero taken));
+        same = λ a taken stream. d .same a taken (piece ++ stream) ∙ ap (λ (k : ℕ). says (dated k said) (rest (state x seg re′) k (piece ++ stream))) (sym (add-zero taken));
       }
+  told-at-once piece asksMore x re′ d = absurd d
+  told-at-once piece (refusesWith number) x re′ d =
+      record { stays = d .stays; same = λ a taken stream. d .same a taken (piece ++ stream) ∙ ap (refusedAfter number) (sym (add-zero taken)) }
 
-  -- an answer that is due at once
+  lends-at-once : (reply : Reply Said ℕ) (x : Reader) (re′ : List ℕ) → Replies r (r .phase) seg re reply x re′ → lentOf x ≡ lentOf r
+  lends-at-once (handsOn said) x re′ d = d .lends
+  lends-at-once asksMore x re′ d = absurd d
+  lends-at-once (refusesWith number) x re′ d = d .lends
+
   at-once : (piece : List ℕ) (before : ℕ) (answer : Answer) (x : Reader) (re′ : List ℕ) → Admitted x (length seg) (length re) → length re′ ≡ length re → Tells r (r .phase) seg re (due answer x) re′
-      → Called r seg re piece before (outcome answer before x seg re′)
-  at-once piece before (envelopeAt buffer at e) x re′ ok l d =
+      → Called here piece before (outcome answer before x seg re′)
+  at-once piece before answer x re′ ok l d =
       record {
         count = 0;
         is = sym (add-zero before);
         within = omega arith;
-        ready = ready-settled (d .lends) ok l;
-        told = spoken-at-once piece (envelopeOf (bytesAt buffer seg re′ at) e) x re′ d;
-      }
-  at-once piece before (leftover n) x re′ ok l d =
-      record {
-        count = 0;
-        is = sym (add-zero before);
-        within = omega arith;
-        ready = ready-settled (d .lends) ok l;
-        told = spoken-at-once piece (leftoverOf n) x re′ d;
-      }
-  at-once piece before more x re′ ok l d = absurd d
-  at-once piece before (refused number) x re′ ok l d =
-      record {
-        count = 0;
-        is = sym (add-zero before);
-        within = omega arith;
-        ready = ready-settled (d .lends) ok l;
-        told = record { stays = d .stays; same = λ a taken stream. d .same a taken (piece ++ stream) ∙ ap (refusedAfter number) (sym (add-zero taken)) };
+        ready = ready-settled (lends-at-once (replyOf answer seg re′) x re′ d) ok l;
+        told = told-at-once piece (replyOf answer seg re′) x re′ d;
       }
 
   -- nothing is due, and no byte is there
-  asks : (before : ℕ) (x : Reader) (re′ : List ℕ) → Admitted x (length seg) (length re) → length re′ ≡ length re → 0 < wanted (x .form) (x .phase) → Waits r (r .phase) seg re x re′
-      → Called r seg re [] before (outcome more before x seg re′)
+  asks : (before : ℕ) (x : Reader) (re′ : List ℕ) → Admitted x (length seg) (length re) → length re′ ≡ length re → Wants (state x seg re′) → Waits r (r .phase) seg re x re′
+      → Called here [] before (outcome more before x seg re′)
   asks before x re′ ok l w d =
       record {
         count = 0;
@@ -226,27 +220,27 @@ module _ (r : Reader) (seg re : List ℕ) (t : Ready r seg re) where
           all = refl;
           wanting = w;
           agrees = d .agrees;
-          same = λ a taken stream. d .same a taken stream ∙ ap (λ (k : ℕ). rest x seg re′ k stream) (sym (add-zero taken));
+          same = λ a taken stream. d .same a taken stream ∙ ap (λ (k : ℕ). rest (state x seg re′) k stream) (sym (add-zero taken));
         };
       }
 
   -- nothing is due, and a byte is taken before what the rest of the call says
   module _ (b : ℕ) (piece : List ℕ) (before : ℕ) (x : Reader) (re′ : List ℕ) (ok : Admitted x (length seg) (length re)) (l : length re′ ≡ length re) (w : 0 < wanted (x .form) (x .phase))
       (d : Waits r (r .phase) seg re x re′) where
-    abbrev y : Reader
-    y = pushed 1 x
-
     abbrev seg′ : List ℕ
     seg′ = stored (x .phase) seg (b ∷ [])
 
-    abbrev ready-x : Ready x seg re′
+    abbrev on : State
+    on = state (pushed 1 x) seg′ re′
+
+    abbrev ready-x : Ready (state x seg re′)
     ready-x = ready-settled (d .lends) ok l
 
     abbrev pushes-x : Pushes x (x .phase) seg re′ b
     pushes-x = pushes x seg re′ b (ready-x .segment) (ok .least) (x .phase) (ok .counts) w
 
-    pub ready-y : Ready y seg′ re′
-    ready-y =
+    pub ready-on : Ready on
+    ready-on =
         let p = pushes-x in
         let s = ready-x in
         record {
@@ -262,66 +256,62 @@ module _ (r : Reader) (seg re : List ℕ) (t : Ready r seg re) where
           };
         }
 
-    agrees-y : Agrees (r .form) (r .phase) seg → Agrees (y .form) (y .phase) seg′
-    agrees-y a = pushes-x .agrees (d .agrees a)
+    agrees-on : Untouched here → Untouched on
+    agrees-on a = pushes-x .agrees (d .agrees a)
 
-    same-y : Agrees (r .form) (r .phase) seg → (taken : ℕ) (stream : List ℕ) → rest r seg re taken (b ∷ stream) ≡ rest y seg′ re′ (suc taken) stream
-    same-y a taken stream = d .same a taken (b ∷ stream) ∙ pushes-x .same (d .agrees a) taken stream
+    same-on : Untouched here → (taken : ℕ) (stream : List ℕ) → rest here taken (b ∷ stream) ≡ rest on (suc taken) stream
+    same-on a taken stream = d .same a taken (b ∷ stream) ∙ pushes-x .same (d .agrees a) taken stream
 
     later : (taken count : ℕ) → suc taken + count ≡ taken + suc count
     later taken count = omega arith
 
-    spoken-later : (count : ℕ) (said : Said) (r″ : Reader) (seg″ re″ : List ℕ) → Spoken y seg′ re′ piece count said r″ seg″ re″ → Spoken r seg re (b ∷ piece) (suc count) said r″ seg″ re″
-    spoken-later count said r″ seg″ re″ t =
+    told-later : (count : ℕ) (reply : Reply Said ℕ) (u : State) → Told on piece count reply u → Told here (b ∷ piece) (suc count) reply u
+    told-later count (handsOn said) u t =
         record {
           small = t .small;
           less = omega (arith, t .less, pushes-x .most, d .most);
-          agrees = λ a. t .agrees (agrees-y a);
+          agrees = λ a. t .agrees (agrees-on a);
           same =
-              λ a taken stream. same-y a taken (piece ++ stream)
-              ∙ t .same (agrees-y a) (suc taken) stream
-              ∙ ap (λ (k : ℕ). says said (rest r″ seg″ re″ k (drop count piece ++ stream))) (later taken count);
+              λ a taken stream. same-on a taken (piece ++ stream)
+              ∙ t .same (agrees-on a) (suc taken) stream
+              ∙ ap (λ (k : ℕ). says (dated k said) (rest u k (drop count piece ++ stream))) (later taken count);
         }
-
-    told-later : (count : ℕ) (answer : Answer) (r″ : Reader) (seg″ re″ : List ℕ) → Told y seg′ re′ piece count answer r″ seg″ re″ → Told r seg re (b ∷ piece) (suc count) answer r″ seg″ re″
-    told-later count (envelopeAt buffer at e) r″ seg″ re″ t = spoken-later count (envelopeOf (bytesAt buffer seg″ re″ at) e) r″ seg″ re″ t
-    told-later count (leftover n) r″ seg″ re″ t = spoken-later count (leftoverOf n) r″ seg″ re″ t
-    told-later count more r″ seg″ re″ t =
+    told-later count asksMore u t =
         record {
           all = ap suc (t .all);
           wanting = t .wanting;
-          agrees = λ a. t .agrees (agrees-y a);
-          same = λ a taken stream. same-y a taken (piece ++ stream) ∙ t .same (agrees-y a) (suc taken) stream ∙ ap (λ (k : ℕ). rest r″ seg″ re″ k stream) (later taken count);
+          agrees = λ a. t .agrees (agrees-on a);
+          same = λ a taken stream. same-on a taken (piece ++ stream) ∙ t .same (agrees-on a) (suc taken) stream ∙ ap (λ (k : ℕ). rest u k stream) (later taken count);
         }
-    told-later count (refused number) r″ seg″ re″ t =
-        record { stays = t .stays; same = λ a taken stream. same-y a taken (piece ++ stream) ∙ t .same (agrees-y a) (suc taken) stream ∙ ap (refusedAfter number) (later taken count) }
+    told-later count (refusesWith number) u t =
+        record { stays = t .stays; same = λ a taken stream. same-on a taken (piece ++ stream) ∙ t .same (agrees-on a) (suc taken) stream ∙ ap (refusedAfter number) (later taken count) }
 
-    one-later : (o : Outcome) → Called y seg′ re′ piece (suc before) o → Called r seg re (b ∷ piece) before o
+    one-later : (o : Outcome) → Called on piece (suc before) o → Called here (b ∷ piece) before o
     one-later o t =
         record {
           count = suc (t .count);
           is = t .is ∙ later before (t .count);
           within = omega (arith, t .within);
           ready = t .ready;
-          told = told-later (t .count) (o .answer) (o .reader) (o .segment) (o .reassembly) (t .told);
+          told = told-later (t .count) (replyOf (o .answer) (o .segment) (o .reassembly)) (state (o .reader) (o .segment) (o .reassembly)) (t .told);
         }
 
 -- by what settling says
-module _ (before : ℕ) (r : Reader) (seg re : List ℕ) (t : Ready r seg re) where
-  called-last : (d : Due) (re′ : List ℕ) → settle r seg re ≡ settled d re′ → Sound (length seg) (length re) d re′ → Tells r (r .phase) seg re d re′ → Called r seg re [] before (work before r seg re [])
-  called-last (due answer x) re′ e s d = subst (Called r seg re [] before) (sym (work-due before seg r re [] e)) (at-once r seg re t [] before answer x re′ (s .0) (s .1) d)
-  called-last (waits x) re′ e s d = subst (Called r seg re [] before) (sym (work-more before seg r re e)) (asks r seg re t before x re′ (s .0) (s .1) (s .2) d)
+module _ (before : ℕ) (r : Reader) (seg re : List ℕ) (t : Ready (state r seg re)) where
+  called-last : (d : Due) (re′ : List ℕ) → settle r seg re ≡ settled d re′ → Sound (length seg) (length re) d re′ → Tells r (r .phase) seg re d re′ → Called (state r seg re) [] before (work before r seg re [])
+  called-last (due answer x) re′ e s d = subst (Called (state r seg re) [] before) (sym (work-due before seg r re [] e)) (at-once r seg re t [] before answer x re′ (s .0) (s .1) d)
+  called-last (waits x) re′ e s d = subst (Called (state r seg re) [] before) (sym (work-more before seg r re e)) (asks r seg re t before x re′ (s .0) (s .1) (s .2) d)
 
   called-next : (b : ℕ) (piece : List ℕ) (d : Due) (re′ : List ℕ) → settle r seg re ≡ settled d re′ → Sound (length seg) (length re) d re′ → Tells r (r .phase) seg re d re′
-      → ((x : Reader) (seg₁ re₁ : List ℕ) → Ready x seg₁ re₁ → Called x seg₁ re₁ piece (suc before) (work (suc before) x seg₁ re₁ piece))
-      → Called r seg re (b ∷ piece) before (work before r seg re (b ∷ piece))
+      → ((x : Reader) (seg₁ re₁ : List ℕ) → Ready (state x seg₁ re₁) → Called (state x seg₁ re₁) piece (suc before) (work (suc before) x seg₁ re₁ piece))
+      → Called (state r seg re) (b ∷ piece) before (work before r seg re (b ∷ piece))
   called-next b piece (due answer x) re′ e s d goes-on =
-      subst (Called r seg re (b ∷ piece) before) (sym (work-due before seg r re (b ∷ piece) e)) (at-once r seg re t (b ∷ piece) before answer x re′ (s .0) (s .1) d)
+      subst (Called (state r seg re) (b ∷ piece) before) (sym (work-due before seg r re (b ∷ piece) e)) (at-once r seg re t (b ∷ piece) before answer x re′ (s .0) (s .1) d)
   called-next b piece (waits x) re′ e s d goes-on =
-      subst (Called r seg re (b ∷ piece) before) (sym (work-push before seg r re b piece e))
-      (one-later r seg re t b piece before x re′ (s .0) (s .1) (s .2) d _ (goes-on _ _ _ (ready-y r seg re t b piece before x re′ (s .0) (s .1) (s .2) d)))
+      subst (Called (state r seg re) (b ∷ piece) before) (sym (work-push before seg r re b piece e))
+      (one-later r seg re t b piece before x re′ (s .0) (s .1) (s .2) d _ (goes-on _ _ _ (ready-on r seg re t b piece before x re′ (s .0) (s .1) (s .2) d)))
 
-work-called : (piece : List ℕ) (before : ℕ) (r : Reader) (seg re : List ℕ) → Ready r seg re → Called r seg re piece before (work before r seg re piece)
+work-called : (piece : List ℕ) (before : ℕ) (r : Reader) (seg re : List ℕ) → Ready (state r seg re) → Called (state r seg re) piece before (work before r seg re piece)
 work-called [] before r seg re t =
     called-last before r seg re t (settle r seg re .says) (settle r seg re .reassembly) refl (settle-sound r (length seg) (length re) (t .ok) seg re refl refl)
     (settle-tells r seg re (t .segment) (t .reassembly) (t .ok))
@@ -332,7 +322,7 @@ work-called (b ∷ piece) before r seg re t =
 -- ---- 1 is tested first
 
 module _ (r : Reader) (seg re piece : List ℕ) where
-  pub call-works : Ready r seg re → call r seg re piece ≡ work 0 r seg re piece
+  pub call-works : Ready (state r seg re) → call r seg re piece ≡ work 0 r seg re piece
   unfolding call
   call-works t = ap (λ (b : Bool). cond b (work 0 r seg re piece) (outcome (refused 1) 0 r seg re)) (ready-admissible r seg re t)
 
@@ -340,5 +330,5 @@ module _ (r : Reader) (seg re piece : List ℕ) where
   unfolding call
   call-refused e = ap (λ (b : Bool). cond b (work 0 r seg re piece) (outcome (refused 1) 0 r seg re)) e
 
-  pub called : Ready r seg re → Called r seg re piece 0 (call r seg re piece)
-  called t = subst (Called r seg re piece 0) (sym (call-works t)) (work-called piece 0 r seg re t)
+  pub called : Ready (state r seg re) → Called (state r seg re) piece 0 (call r seg re piece)
+  called t = subst (Called (state r seg re) piece 0) (sym (call-works t)) (work-called piece 0 r seg re t)

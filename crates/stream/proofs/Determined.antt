@@ -3,14 +3,15 @@ use Prim.Native.Nat.{ℕ}
 use mathlib.Core.Path.{_≡_, refl, sym, ap, ap₂, _∙_}
 use mathlib.Core.List.{List}
 use Rattle.basis.specs.Determined.{DeterminedAs}
+use Rattle.basis.proofs.Machine.{one-way}
 use Rattle.refusal.proofs.Numbers.{refusalOf, refusalOf-number}
 use Rattle.segment.specs.Header.{Form}
+use Rattle.stream.specs.Caller.{State}
 use Rattle.stream.specs.Collect.{Tape, Ending, refusedEnd, heldEnd, HeardAs}
 use Rattle.stream.specs.Paper.{tapeOf, paperEnd}
 use Rattle.stream.specs.declared.Notes.{Notes}
 use Rattle.stream.specs.declared.End.{End}
 use Rattle.stream.specs.declared.Collected.{Collected}
-use Rattle.stream.proofs.Left.{left-one}
 use Rattle.stream.proofs.collect.Reads as collects
 
 -- ---- what an end means says the end
@@ -37,9 +38,9 @@ module _ {f : Form} {segment reassembly stream envelopes marks : List ℕ} where
   apart r s seg re out log seg′ re′ out′ log′ p q =
       let t : tapeOf (r .notes) out log ≡ tapeOf (s .notes) out′ log′ = p .tells ∙ sym (q .tells) in
       let e : r .end ≡ s .end = sym (end-is (r .end) seg re) ∙ ap endFrom (p .ends ∙ sym (q .ends)) ∙ end-is (s .end) seg′ re′ in
-      let l = left-one (p .leaves) (q .leaves) in
+      let l = one-way (p .leaves .uses) (q .leaves .uses) .leaves in
       ap₂ (λ (x : Tape) (y : End). (record { notes = record { answers = x .answers; bytes = x .bytes; complete = x .complete }; end = y }, (seg, (re, (x .envelopes, x .marks))))) t e
-      ∙ ap₂ (λ (x y : List ℕ). (s, (x, (y, (out′, log′))))) (l .0) (l .1)
+      ∙ ap (λ (x : State). (s, (x .segment, (x .reassembly, (out′, log′))))) l
 
 pub collect-determined : DeterminedAs {Seen = Seen} (λ κs r e. (r, (e .1 .0 .now, (e .1 .1 .0 .now, (e .1 .1 .1 .1 .1 .0 .now, e .1 .1 .1 .1 .1 .1 .0 .now))))) collects.Post
 collect-determined =

@@ -1,5 +1,5 @@
 -- Demand 3, the second half: a legal stream, the lent sizes sufficing, means exactly its envelopes, and nothing is held. Assumes nothing.
-use Prim.Native.Nat.{ℕ, _+_, _≤_, _<_}
+use Prim.Native.Nat.{ℕ, _+_, _-_, _≤_, _<_}
 use mathlib.Core.Path.{_≡_, refl, sym, ap, ap₂, _∙_, subst}
 use mathlib.Core.Bool.{Bool, true, false, cond}
 use mathlib.Core.List.{List, [], _∷_, _++_, append-assoc, append-nil}
@@ -11,7 +11,10 @@ use lib.Dec.{leb}
 use lib.ListN.{length, take, drop, length-append, length-drop, take-append-drop}
 use lib.Seq.{take-append-seam, drop-append-seam}
 use Rattle.basis.specs.Front.{Front, incomplete, refuses, whole, ifWhole}
-use Rattle.basis.proofs.Fronts.{not-refused, not-whole, refused-not-whole, whole-value}
+use Rattle.basis.specs.Machine.{Dated, dated, says, refusedAfter, holding, saying}
+use Rattle.basis.proofs.Fronts.{not-whole, refused-not-whole, whole-value}
+use Rattle.basis.proofs.Machine.{saying-both}
+use Rattle.types.specs.Read.{place}
 use Rattle.types.proofs.BigEndian.{length-part}
 use Rattle.segment.specs.Header.{Form, Header, headerLength}
 use Rattle.segment.specs.Segment.{Segment, segment, segmentLength, headerAt, payloadAt, segmentAt}
@@ -19,9 +22,10 @@ use Rattle.segment.proofs.Cases.{payloadIn, Payloads, payload-cut, payload-diff
 use Rattle.segment.proofs.ReadWritten.{header-found}
 use Rattle.frame.specs.Envelope.{Envelope, envelope}
 use Rattle.frame.proofs.Bounds.{nothing-behind, cut-short}
-use Rattle.stream.specs.Meaning.{Lent, Said, envelopeOf, Meaning, says, refusedAfter, holding, segmentIn, envelopesIn, dropping, bySegment, meaningFrom}
+use Rattle.frame_decoder.specs.Reader.{Buffer, segmentBuffer, reassemblyBuffer}
+use Rattle.stream.specs.Meaning.{Lent, Said, envelopeOf, held, Meaning, segmentIn, envelopesIn, dropping, bySegment, meaningFrom}
 use Rattle.stream.specs.Segments.{lastOf, judgedAt, byFirst, segmentwise}
-use Rattle.stream.specs.Legal.{Envelopes, no-envelope, one-envelope, WholeSegment, Run, no-segment, one-segment, Legal, legal-end, legal-alone, legal-run, saying, exactly, Suffices, RunFits, Fits}
+use Rattle.stream.specs.Legal.{Message, message, Envelopes, no-envelope, one-envelope, answered, WholeSegment, Run, no-segment, one-segment, complete, others, unread, runAnswered, Legal, legal-end, legal-alone, legal-run, exactly, NeverShort, RunFits, Fits}
 use Rattle.stream.proofs.Lists.{cut-take, cut-drop}
 use Rattle.stream.proofs.Envelopes.{nothing-there, none-whole, first-whole}
 use Rattle.stream.proofs.Heads.{header-behind, payload-behind, roomy-header, large-header}
@@ -29,17 +33,13 @@ use Rattle.stream.proofs.Segments.{segment-by-segment}
 
 -- ---- what is said
 
-suffices-then : (said : List Said) (m : Meaning) → Suffices (saying said m) → Suffices m
-suffices-then [] m h = h
-suffices-then (x ∷ said) m h = suffices-then said m h
+never-then : (answers : List (Dated Said)) (m : Meaning) → NeverShort (saying answers m) → NeverShort m
+never-then [] m h = h
+never-then (x ∷ answers) m h = never-then answers m h
 
-then-suffices : (said : List Said) (m : Meaning) → Suffices m → Suffices (saying said m)
-then-suffices [] m h = h
-then-suffices (x ∷ said) m h = then-suffices said m h
-
-saying-both : (first later : List Said) (m : Meaning) → saying (first ++ later) m ≡ saying first (saying later m)
-saying-both [] later m = refl
-saying-both (x ∷ first) later m = ap (says x) (saying-both first later m)
+then-never : (answers : List (Dated Said)) (m : Meaning) → NeverShort m → NeverShort (saying answers m)
+then-never [] m h = h
+then-never (x ∷ answers) m h = then-never answers m h
 
 -- ---- whole envelopes
 
@@ -47,98 +47,132 @@ whole-behind : (e s : List ℕ) (v : Envelope) → envelope e ≡ whole v → en
 whole-behind e s v h = nothing-behind e s (λ i. not-whole (sym i ∙ h)) ∙ h
 
 -- none more is complete and no byte is to come: nothing is left
-envelopes-end : {s : List ℕ} {said : List Said} → Envelopes s said → envelope s ≡ incomplete → (s ≡ []) × (said ≡ [])
+pub envelopes-end : {s : List ℕ} {es : List Message} → Envelopes s es → envelope s ≡ incomplete → (s ≡ []) × (es ≡ [])
 envelopes-end no-envelope h = (refl, refl)
 envelopes-end (one-envelope {bytes = e} {others = s} {v = v} r l on) h = absurd (not-whole (sym h ∙ whole-behind e s v r))
 
+-- the first is whole within n bytes, or not
+module _ (e : Message) (es : List Message) (n : ℕ) where
+  module _ (h : length (e .bytes) ≤ n) where
+    test : leb (length (e .bytes)) n ≡ true
+    test = le-leb (length (e .bytes)) n h
+
+    pub complete-more : complete n (e ∷ es) ≡ e ∷ complete (n - length (e .bytes)) es
+    unfolding complete
+    complete-more = ap (λ (b : Bool). cond b (e ∷ complete (n - length (e .bytes)) es) []) test
+
+    pub others-more : others n (e ∷ es) ≡ others (n - length (e .bytes)) es
+    unfolding others
+    others-more = ap (λ (b : Bool). cond b (others (n - length (e .bytes)) es) (e ∷ es)) test
+
+    unread-more : unread n (e ∷ es) ≡ unread (n - length (e .bytes)) es
+    unfolding unread
+    unread-more = ap (λ (b : Bool). cond b (unread (n - length (e .bytes)) es) n) test
+
+  module _ (h : n < length (e .bytes)) where
+    fails : leb (length (e .bytes)) n ≡ false
+    fails = lt-leb (length (e .bytes)) n h
+
+    pub complete-less : complete n (e ∷ es) ≡ []
+    unfolding complete
+    complete-less = ap (λ (b : Bool). cond b (e ∷ complete (n - length (e .bytes)) es) []) fails
+
+    pub others-less : others n (e ∷ es) ≡ e ∷ es
+    unfolding others
+    others-less = ap (λ (b : Bool). cond b (others (n - length (e .bytes)) es) (e ∷ es)) fails
+
+    unread-less : unread n (e ∷ es) ≡ n
+    unfolding unread
+    unread-less = ap (λ (b : Bool). cond b (unread (n - length (e .bytes)) es) n) fails
+
 -- The first bytes x of whole envelopes: those that are whole in x are said, and bytes of one more are left.
-record Cut (x y : List ℕ) (said : List Said) : Type 0 where
-  first : List Said
-  later : List Said
-  unread : List ℕ
-  both : said ≡ first ++ later
-  on : Envelopes (unread ++ y) later
-  short : envelope unread ≡ incomplete
-  less : length unread ≤ length x
-  tells : (taken : ℕ) (goes-on : List ℕ → Meaning) → envelopesIn 0 x taken goes-on ≡ saying first (goes-on unread)
+pub record Cut (x y : List ℕ) (es : List Message) : Type 0 where
+  pub left : List ℕ
+  pub long : length left ≡ unread (length x) es
+  pub on : Envelopes (left ++ y) (others (length x) es)
+  pub short : envelope left ≡ incomplete
+  pub less : length left ≤ length x
+  pub tells : (taken : ℕ) (buffer : Buffer) (at : ℕ) (goes-on : List ℕ → Meaning)
+      → envelopesIn taken buffer at 0 x goes-on ≡ saying (answered taken buffer at (complete (length x) es)) (goes-on left)
 
 cut-none : (x y : List ℕ) → [] ≡ x ++ y → Cut x y []
+unfolding complete others unread answered
 cut-none [] y q =
     record {
-      first = [];
-      later = [];
-      unread = [];
-      both = refl;
+      left = [];
+      long = refl;
       on = subst (λ (s : List ℕ). Envelopes s []) q no-envelope;
       short = nothing-there;
       less = omega arith;
-      tells = λ taken goes-on. none-whole taken goes-on [] nothing-there;
+      tells = λ taken buffer at goes-on. none-whole taken buffer goes-on at [] nothing-there;
     }
 cut-none (b ∷ x) y q = absurd (let z : 0 ≡ length ((b ∷ x) ++ y) = ap length q in omega arith)
 
-module _ (e s x y : List ℕ) (v : Envelope) (said : List Said) (r : envelope e ≡ whole v) (l : v .size ≡ length e) (q : e ++ s ≡ x ++ y) where
-  cut-next : length e ≤ length x → Cut (drop (length e) x) y said → Cut x y (envelopeOf e v ∷ said)
+module _ (e s x y : List ℕ) (v : Envelope) (es : List Message) (r : envelope e ≡ whole v) (l : v .size ≡ length e) (q : e ++ s ≡ x ++ y) where
+  cut-next : length e ≤ length x → Cut (drop (length e) x) y es → Cut x y (message e v ∷ es)
+  unfolding answered
   cut-next h i =
+      let n : ℕ = length x in
+      let d : length (drop (length e) x) ≡ n - length e = length-drop (length e) x in
       let te : take (length e) x ≡ e = cut-take e s x y q h in
       let ex : envelope x ≡ whole v =
       ap envelope (sym (take-append-drop (length e) x) ∙ ap (λ (i : List ℕ). i ++ drop (length e) x) te) ∙ whole-behind e (drop (length e) x) v r
       in
       record {
-        first = envelopeOf e v ∷ i .first;
-        later = i .later;
-        unread = i .unread;
-        both = ap (λ (k : List Said). envelopeOf e v ∷ k) (i .both);
-        on = i .on;
+        left = i .left;
+        long = i .long ∙ ap (λ (k : ℕ). unread k es) d ∙ sym (unread-more (message e v) es n h);
+        on = subst (Envelopes (i .left ++ y)) (ap (λ (k : ℕ). others k es) d ∙ sym (others-more (message e v) es n h)) (i .on);
         short = i .short;
-        less = omega (arith, i .less, length-drop (length e) x);
+        less = omega (arith, i .less);
         tells =
-            λ taken goes-on. first-whole taken goes-on x v ex
-            ∙ ap (λ (n : ℕ). says (envelopeOf (take n x) v) (envelopesIn 0 (drop n x) taken goes-on)) l
-            ∙ ap₂ (λ (b : List ℕ) (m : Meaning). says (envelopeOf b v) m) te (i .tells taken goes-on);
+            λ taken buffer at goes-on. first-whole taken buffer goes-on at x v ex
+            ∙ ap (λ (k : ℕ). says (dated taken (envelopeOf buffer (place at k) (take k x) v)) (envelopesIn taken buffer (at + k) 0 (drop k x) goes-on)) l
+            ∙ ap₂ (λ (b : List ℕ) (m : Meaning). says (dated taken (envelopeOf buffer (place at (length e)) b v)) m) te (i .tells taken buffer (at + length e) goes-on)
+            ∙ ap (λ (k : ℕ). saying (answered taken buffer at (message e v ∷ complete k es)) (goes-on (i .left))) d
+            ∙ ap (λ (k : List Message). saying (answered taken buffer at k) (goes-on (i .left))) (sym (complete-more (message e v) es n h));
       }
 
-  cut-here : Envelopes s said → length x < length e → Cut x y (envelopeOf e v ∷ said)
+  cut-here : Envelopes s es → length x < length e → Cut x y (message e v ∷ es)
+  unfolding answered
   cut-here on h =
       let all : envelope (x ++ y) ≡ whole v = ap envelope (sym q) ∙ whole-behind e s v r in
       let short : envelope x ≡ incomplete = ap envelope (sym (take-append-seam x y)) ∙ cut-short (x ++ y) all (length x) (omega arith) in
       record {
-        first = [];
-        later = envelopeOf e v ∷ said;
-        unread = x;
-        both = refl;
-        on = subst (λ (i : List ℕ). Envelopes i (envelopeOf e v ∷ said)) q (one-envelope r l on);
+        left = x;
+        long = sym (unread-less (message e v) es (length x) h);
+        on = subst (Envelopes (x ++ y)) (sym (others-less (message e v) es (length x) h)) (subst (λ (i : List ℕ). Envelopes i (message e v ∷ es)) q (one-envelope r l on));
         short = short;
         less = omega arith;
-        tells = λ taken goes-on. none-whole taken goes-on x short;
+        tells =
+            λ taken buffer at goes-on. none-whole taken buffer goes-on at x short
+            ∙ ap (λ (k : List Message). saying (answered taken buffer at k) (goes-on x)) (sym (complete-less (message e v) es (length x) h));
       }
 
-cut : {s : List ℕ} {said : List Said} → Envelopes s said → (x y : List ℕ) → s ≡ x ++ y → Cut x y said
+pub cut : {s : List ℕ} {es : List Message} → Envelopes s es → (x y : List ℕ) → s ≡ x ++ y → Cut x y es
 cut no-envelope x y q = cut-none x y q
-cut (one-envelope {bytes = e} {others = s} {v = v} {said = said} r l on) x y q =
+cut (one-envelope {bytes = e} {others = s} {v = v} {es = es} r l on) x y q =
     elim (decLe (length e) (length x)) [
-      | yes h ↦ cut-next e s x y v said r l q h (cut on (drop (length e) x) y (cut-drop e s x y q h))
-      | no few ↦ cut-here e s x y v said r l q on (lt-of-not-le few)
+      | yes h ↦ cut-next e s x y v es r l q h (cut on (drop (length e) x) y (cut-drop e s x y q h))
+      | no few ↦ cut-here e s x y v es r l q on (lt-of-not-le few)
     ]
 
--- they are said, and nothing is left
-all-said : {s : List ℕ} {said : List Said} → Envelopes s said → (taken : ℕ) (goes-on : List ℕ → Meaning) → envelopesIn 0 s taken goes-on ≡ saying said (goes-on [])
-all-said {s} {said} w taken goes-on =
-    let i : Cut s [] said = cut w s [] (sym (append-nil s)) in
-    let d = envelopes-end (subst (λ (k : List ℕ). Envelopes k (i .later)) (append-nil (i .unread)) (i .on)) (i .short) in
-    let q : said ≡ i .first = i .both ∙ ap (λ (k : List Said). i .first ++ k) (d .1) ∙ append-nil (i .first) in
-    i .tells taken goes-on ∙ ap₂ (λ (k : List Said) (u : List ℕ). saying k (goes-on u)) (sym q) (d .0)
-
 -- whole envelopes before bytes of which none is whole
-pub said-then : {s : List ℕ} {said : List Said} → Envelopes s said → (u : List ℕ) → envelope u ≡ incomplete → (taken : ℕ) (goes-on : List ℕ → Meaning)
-    → envelopesIn 0 (s ++ u) taken goes-on ≡ saying said (goes-on u)
-said-then no-envelope u short taken goes-on = none-whole taken goes-on u short
-said-then (one-envelope {bytes = e} {others = s} {v = v} {said = said} r l on) u short taken goes-on =
+pub said-then : {s : List ℕ} {es : List Message} → Envelopes s es → (u : List ℕ) → envelope u ≡ incomplete → (taken : ℕ) (buffer : Buffer) (at : ℕ) (goes-on : List ℕ → Meaning)
+    → envelopesIn taken buffer at 0 (s ++ u) goes-on ≡ saying (answered taken buffer at es) (goes-on u)
+unfolding answered
+said-then no-envelope u short taken buffer at goes-on = none-whole taken buffer goes-on at u short
+said-then (one-envelope {bytes = e} {others = s} {v = v} {es = es} r l on) u short taken buffer at goes-on =
     let a : (e ++ s) ++ u ≡ e ++ (s ++ u) = append-assoc e s u in
-    ap (λ (x : List ℕ). envelopesIn 0 x taken goes-on) a
-    ∙ first-whole taken goes-on (e ++ (s ++ u)) v (whole-behind e (s ++ u) v r)
-    ∙ ap (λ (n : ℕ). says (envelopeOf (take n (e ++ (s ++ u))) v) (envelopesIn 0 (drop n (e ++ (s ++ u))) taken goes-on)) l
-    ∙ ap₂ (λ (b x : List ℕ). says (envelopeOf b v) (envelopesIn 0 x taken goes-on)) (take-append-seam e (s ++ u)) (drop-append-seam e (s ++ u))
-    ∙ ap (says (envelopeOf e v)) (said-then on u short taken goes-on)
+    ap (λ (x : List ℕ). envelopesIn taken buffer at 0 x goes-on) a
+    ∙ first-whole taken buffer goes-on at (e ++ (s ++ u)) v (whole-behind e (s ++ u) v r)
+    ∙ ap (λ (n : ℕ). says (dated taken (envelopeOf buffer (place at n) (take n (e ++ (s ++ u))) v)) (envelopesIn taken buffer (at + n) 0 (drop n (e ++ (s ++ u))) goes-on)) l
+    ∙ ap₂ (λ (b x : List ℕ). says (dated taken (envelopeOf buffer (place at (length e)) b v)) (envelopesIn taken buffer (at + length e) 0 x goes-on)) (take-append-seam e (s ++ u)) (drop-append-seam e (s ++ u))
+    ∙ ap (says (dated taken (envelopeOf buffer (place at (length e)) e v))) (said-then on u short taken buffer (at + length e) goes-on)
+
+-- they are said, and nothing is left
+all-said : {s : List ℕ} {es : List Message} → Envelopes s es → (taken : ℕ) (buffer : Buffer) (at : ℕ) (goes-on : List ℕ → Meaning)
+    → envelopesIn taken buffer at 0 s goes-on ≡ saying (answered taken buffer at es) (goes-on [])
+all-said {s} w taken buffer at goes-on = ap (λ (x : List ℕ). envelopesIn taken buffer at 0 x goes-on) (sym (append-nil s)) ∙ said-then w [] nothing-there taken buffer at goes-on
 
 -- ---- a segment in front of the stream
 
@@ -213,89 +247,102 @@ module _ (z : Lent) (s : List ℕ) (self : Bool) (p : List ℕ) (g : WholeSegmen
 
 module _ (z : Lent) where
   -- with room for it
-  alone-said : {s p : List ℕ} {said : List Said} → WholeSegment (z .form) s true p → Envelopes p said → segmentLength (z .form) (length p) ≤ z .segment → (taken : ℕ) (stream : List ℕ)
-      → meaningFrom z taken [] [] (s ++ stream) ≡ saying said (meaningFrom z (taken + length s) [] [] stream)
+  alone-said : {s p : List ℕ} {es : List Message} → WholeSegment (z .form) s true p → Envelopes p es → segmentLength (z .form) (length p) ≤ z .segment → (taken : ℕ) (stream : List ℕ)
+      → meaningFrom z taken [] [] (s ++ stream) ≡ saying (answered (taken + length s) segmentBuffer (headerLength (z .form)) es) (meaningFrom z (taken + length s) [] [] stream)
   alone-said {s} {p} g w room taken stream =
-      segment-first z s true p g taken [] stream room ∙ all-said w (taken + length s) (λ unread. dropping unread (meaningFrom z (taken + length s) [] [] stream))
+      segment-first z s true p g taken [] stream room
+      ∙ all-said w (taken + length s) segmentBuffer (headerLength (z .form)) (λ unread. dropping (taken + length s) unread (meaningFrom z (taken + length s) [] [] stream))
 
   joined-said : {s p : List ℕ} → WholeSegment (z .form) s false p → segmentLength (z .form) (length p) ≤ z .segment → (taken : ℕ) (u stream : List ℕ) (t : Bool)
       → leb (length u + length p) (z .reassembly) ≡ t
-      → meaningFrom z taken u [] (s ++ stream) ≡ cond t (envelopesIn 0 (u ++ p) (taken + length s) (λ unread. meaningFrom z (taken + length s) unread [] stream)) (refusedAfter 7 (taken + length s))
+      → meaningFrom z taken u [] (s ++ stream)
+      ≡ cond t (envelopesIn (taken + length s) reassemblyBuffer 0 0 (u ++ p) (λ unread. meaningFrom z (taken + length s) unread [] stream)) (refusedAfter 7 (taken + length s))
   joined-said {s} {p} g room taken u stream t e =
       segment-first z s false p g taken u stream room
-      ∙ ap (λ (b : Bool). cond b (envelopesIn 0 (u ++ p) (taken + length s) (λ unread. meaningFrom z (taken + length s) unread [] stream)) (refusedAfter 7 (taken + length s))) e
+      ∙ ap (λ (b : Bool). cond b (envelopesIn (taken + length s) reassemblyBuffer 0 0 (u ++ p) (λ unread. meaningFrom z (taken + length s) unread [] stream)) (refusedAfter 7 (taken + length s))) e
 
   -- where the sizes suffice there is room
-  room-for : {s p : List ℕ} {self : Bool} → WholeSegment (z .form) s self p → (taken : ℕ) (u stream : List ℕ) → Suffices (meaningFrom z taken u [] (s ++ stream)) → segmentLength (z .form) (length p) ≤ z .segment
+  room-for : {s p : List ℕ} {self : Bool} → WholeSegment (z .form) s self p → (taken : ℕ) (u stream : List ℕ) → NeverShort (meaningFrom z taken u [] (s ++ stream)) → segmentLength (z .form) (length p) ≤ z .segment
   room-for {s} {p} {self} g taken u stream h =
       elim (decLe (segmentLength (z .form) (length p)) (z .segment)) [
         | yes room ↦ room
-        | no large ↦ absurd (subst Suffices (segment-large z s self p g taken u stream (lt-of-not-le large)) h .0 refl)
+        | no large ↦ absurd (subst NeverShort (segment-large z s self p g taken u stream (lt-of-not-le large)) h .0 refl)
       ]
 
-  room-with : {s p : List ℕ} → WholeSegment (z .form) s false p → (taken : ℕ) (u stream : List ℕ) → Suffices (meaningFrom z taken u [] (s ++ stream)) → length u + length p ≤ z .reassembly
+  room-with : {s p : List ℕ} → WholeSegment (z .form) s false p → (taken : ℕ) (u stream : List ℕ) → NeverShort (meaningFrom z taken u [] (s ++ stream)) → length u + length p ≤ z .reassembly
   room-with {s} {p} g taken u stream h =
       elim (decLe (length u + length p) (z .reassembly)) [
         | yes room ↦ room
-        | no large ↦ absurd (subst Suffices (joined-said g (room-for g taken u stream h) taken u stream false (lt-leb (length u + length p) (z .reassembly) (lt-of-not-le large))) h .1 refl)
+        | no large ↦ absurd (subst NeverShort (joined-said g (room-for g taken u stream h) taken u stream false (lt-leb (length u + length p) (z .reassembly) (lt-of-not-le large))) h .1 refl)
       ]
 
   -- one segment of a run: the envelopes that are whole with it
   module _ {s p : List ℕ} (g : WholeSegment (z .form) s false p) (small : segmentLength (z .form) (length p) ≤ z .segment) (u q : List ℕ) (room : length u + length p ≤ z .reassembly)
-      {said : List Said} (c : Cut (u ++ p) q said) (taken : ℕ) (stream : List ℕ) where
-    run-said : meaningFrom z taken u [] (s ++ stream) ≡ saying (c .first) (meaningFrom z (taken + length s) (c .unread) [] stream)
+      {es : List Message} (c : Cut (u ++ p) q es) (taken : ℕ) (stream : List ℕ) where
+    run-said : meaningFrom z taken u [] (s ++ stream)
+        ≡ saying (answered (taken + length s) reassemblyBuffer 0 (complete (length u + length p) es)) (meaningFrom z (taken + length s) (c .left) [] stream)
     run-said =
-        joined-said g small taken u stream true (le-leb (length u + length p) (z .reassembly) room) ∙ c .tells (taken + length s) (λ unread. meaningFrom z (taken + length s) unread [] stream)
+        joined-said g small taken u stream true (le-leb (length u + length p) (z .reassembly) room)
+        ∙ c .tells (taken + length s) reassemblyBuffer 0 (λ unread. meaningFrom z (taken + length s) unread [] stream)
+        ∙ ap (λ (n : ℕ). saying (answered (taken + length s) reassemblyBuffer 0 (complete n es)) (meaningFrom z (taken + length s) (c .left) [] stream)) (length-append u p)
 
-  means-run : {s p : List ℕ} → Run (z .form) s p → (taken : ℕ) (u stream : List ℕ) {said : List Said} → Envelopes (u ++ p) said → envelope u ≡ incomplete → Suffices (meaningFrom z taken u [] (s ++ stream))
-      → meaningFrom z taken u [] (s ++ stream) ≡ saying said (meaningFrom z (taken + length s) [] [] stream)
-  means-run no-segment taken u stream {said} w h f =
-      let d = envelopes-end (subst (λ (k : List ℕ). Envelopes k said) (append-nil u) w) h in
-      ap₂ (λ (k : ℕ) (v : List ℕ). meaningFrom z k v [] stream) (sym (add-zero taken)) (d .0) ∙ ap (λ (k : List Said). saying k (meaningFrom z (taken + 0) [] [] stream)) (sym (d .1))
-  means-run (one-segment {bytes = s} {payload = p} {others = t} {payloads = q} g on) taken u stream {said} w h f =
-      let c : Cut (u ++ p) q said = cut w (u ++ p) q (sym (append-assoc u p q)) in
+  means-run : {s p : List ℕ} (run : Run (z .form) s p) (taken : ℕ) (u stream : List ℕ) {es : List Message} → Envelopes (u ++ p) es → envelope u ≡ incomplete → NeverShort (meaningFrom z taken u [] (s ++ stream))
+      → meaningFrom z taken u [] (s ++ stream) ≡ saying (runAnswered run taken (length u) es) (meaningFrom z (taken + length s) [] [] stream)
+  means-run no-segment taken u stream {es} w h f =
+      let d = envelopes-end (subst (λ (k : List ℕ). Envelopes k es) (append-nil u) w) h in
+      ap₂ (λ (k : ℕ) (v : List ℕ). meaningFrom z k v [] stream) (sym (add-zero taken)) (d .0)
+  means-run (one-segment {bytes = s} {payload = p} {others = t} {payloads = q} g run) taken u stream {es} w h f =
+      let c : Cut (u ++ p) q es = cut w (u ++ p) q (sym (append-assoc u p q)) in
+      let j : length (u ++ p) ≡ length u + length p = length-append u p in
       let a : (s ++ t) ++ stream ≡ s ++ (t ++ stream) = append-assoc s t stream in
-      let k : Suffices (meaningFrom z taken u [] (s ++ (t ++ stream))) = subst (λ (l : List ℕ). Suffices (meaningFrom z taken u [] l)) a f in
-      let e : meaningFrom z taken u [] (s ++ (t ++ stream)) ≡ saying (c .first) (meaningFrom z (taken + length s) (c .unread) [] (t ++ stream)) =
+      let k : NeverShort (meaningFrom z taken u [] (s ++ (t ++ stream))) = subst (λ (l : List ℕ). NeverShort (meaningFrom z taken u [] l)) a f in
+      let first : List (Dated Said) = answered (taken + length s) reassemblyBuffer 0 (complete (length u + length p) es) in
+      let e : meaningFrom z taken u [] (s ++ (t ++ stream)) ≡ saying first (meaningFrom z (taken + length s) (c .left) [] (t ++ stream)) =
       run-said g (room-for g taken u (t ++ stream) k) u q (room-with g taken u (t ++ stream) k) c taken (t ++ stream)
       in
       let n : taken + length s + length t ≡ taken + length (s ++ t) = omega (arith, length-append s t) in
       ap (meaningFrom z taken u []) a
       ∙ e
-      ∙ ap (saying (c .first)) (means-run on (taken + length s) (c .unread) stream (c .on) (c .short) (suffices-then (c .first) _ (subst Suffices e k)))
-      ∙ sym (saying-both (c .first) (c .later) (meaningFrom z (taken + length s + length t) [] [] stream))
-      ∙ ap₂ (λ (x : List Said) (i : ℕ). saying x (meaningFrom z i [] [] stream)) (sym (c .both)) n
+      ∙ ap (saying first) (means-run run (taken + length s) (c .left) stream (c .on) (c .short) (never-then first _ (subst NeverShort e k)))
+      ∙ ap₂ (λ (i : ℕ) (m : Meaning). saying first (saying (runAnswered run (taken + length s) i (others (length (u ++ p)) es)) m)) (c .long) (ap (λ (i : ℕ). meaningFrom z i [] [] stream) n)
+      ∙ ap (λ (i : ℕ). saying first (saying (runAnswered run (taken + length s) (unread i es) (others i es)) (meaningFrom z (taken + length (s ++ t)) [] [] stream))) j
+      ∙ sym (saying-both first (runAnswered run (taken + length s) (unread (length u + length p) es) (others (length u + length p) es)) (meaningFrom z (taken + length (s ++ t)) [] [] stream))
 
   -- A legal stream, the lent sizes sufficing, means exactly its envelopes, and nothing is held.
-  pub legal-means : {s : List ℕ} {said : List Said} → Legal (z .form) s said → (taken : ℕ) → Suffices (meaningFrom z taken [] [] s) → meaningFrom z taken [] [] s ≡ exactly said
+  pub legal-means : {s : List ℕ} {taken : ℕ} {answers : List (Dated Said)} → Legal (z .form) taken s answers → NeverShort (meaningFrom z taken [] [] s) → meaningFrom z taken [] [] s ≡ exactly answers
   unfolding meaningFrom
-  legal-means legal-end taken h = refl
-  legal-means (legal-alone {bytes = s} {payload = p} {others = t} {first = first} {later = later} g w on) taken h =
+  legal-means legal-end h = refl
+  legal-means (legal-alone {taken = taken} {bytes = s} {stream = t} {es = es} {later = later} g w on) h =
+      let first : List (Dated Said) = answered (taken + length s) segmentBuffer (headerLength (z .form)) es in
       let e : meaningFrom z taken [] [] (s ++ t) ≡ saying first (meaningFrom z (taken + length s) [] [] t) = alone-said g w (room-for g taken [] t h) taken t in
-      e ∙ ap (saying first) (legal-means on (taken + length s) (suffices-then first _ (subst Suffices e h))) ∙ sym (saying-both first later (holding [] []))
-  legal-means (legal-run {bytes = s} {payloads = p} {others = t} {first = first} {later = later} g w on) taken h =
-      let e : meaningFrom z taken [] [] (s ++ t) ≡ saying first (meaningFrom z (taken + length s) [] [] t) = means-run g taken [] t w nothing-there h in
-      e ∙ ap (saying first) (legal-means on (taken + length s) (suffices-then first _ (subst Suffices e h))) ∙ sym (saying-both first later (holding [] []))
+      e ∙ ap (saying first) (legal-means on (never-then first _ (subst NeverShort e h))) ∙ sym (saying-both first later (holding (held [] [])))
+  legal-means (legal-run {taken = taken} {bytes = s} {stream = t} {es = es} {later = later} run w on) h =
+      let first : List (Dated Said) = runAnswered run taken 0 es in
+      let e : meaningFrom z taken [] [] (s ++ t) ≡ saying first (meaningFrom z (taken + length s) [] [] t) = means-run run taken [] t w nothing-there h in
+      e ∙ ap (saying first) (legal-means on (never-then first _ (subst NeverShort e h))) ∙ sym (saying-both first later (holding (held [] [])))
 
   -- ---- sizes that fit suffice
 
-  run-suffices : {s p : List ℕ} (g : Run (z .form) s p) → RunFits z g → (taken : ℕ) (u stream : List ℕ) {said : List Said} → Envelopes (u ++ p) said → envelope u ≡ incomplete
-      → length (u ++ p) ≤ z .reassembly → ((k : ℕ) → Suffices (meaningFrom z k [] [] stream)) → Suffices (meaningFrom z taken u [] (s ++ stream))
-  run-suffices no-segment r taken u stream {said} w h l f =
-      let d = envelopes-end (subst (λ (k : List ℕ). Envelopes k said) (append-nil u) w) h in
-      subst (λ (v : List ℕ). Suffices (meaningFrom z taken v [] stream)) (sym (d .0)) (f taken)
-  run-suffices (one-segment {bytes = s} {payload = p} {others = t} {payloads = q} g on) r taken u stream {said} w h l f =
-      let c : Cut (u ++ p) q said = cut w (u ++ p) q (sym (append-assoc u p q)) in
+  run-suffices : {s p : List ℕ} (run : Run (z .form) s p) → RunFits z run → (taken : ℕ) (u stream : List ℕ) {es : List Message} → Envelopes (u ++ p) es → envelope u ≡ incomplete
+      → length (u ++ p) ≤ z .reassembly → ((k : ℕ) → k ≡ taken + length s → NeverShort (meaningFrom z k [] [] stream)) → NeverShort (meaningFrom z taken u [] (s ++ stream))
+  run-suffices no-segment r taken u stream {es} w h l f =
+      let d = envelopes-end (subst (λ (k : List ℕ). Envelopes k es) (append-nil u) w) h in
+      subst (λ (v : List ℕ). NeverShort (meaningFrom z taken v [] stream)) (sym (d .0)) (f taken (sym (add-zero taken)))
+  run-suffices (one-segment {bytes = s} {payload = p} {others = t} {payloads = q} g run) r taken u stream {es} w h l f =
+      let c : Cut (u ++ p) q es = cut w (u ++ p) q (sym (append-assoc u p q)) in
       let l₁ : length (u ++ (p ++ q)) ≡ length u + length (p ++ q) = length-append u (p ++ q) in
       let l₂ : length (p ++ q) ≡ length p + length q = length-append p q in
-      let l₃ : length (c .unread ++ q) ≡ length (c .unread) + length q = length-append (c .unread) q in
+      let l₃ : length (c .left ++ q) ≡ length (c .left) + length q = length-append (c .left) q in
       let l₄ : length (u ++ p) ≡ length u + length p = length-append u p in
-      subst Suffices (sym (ap (meaningFrom z taken u []) (append-assoc s t stream) ∙ run-said g (r .0) u q (omega arith) c taken (t ++ stream)))
-      (then-suffices (c .first) _ (run-suffices on (r .1) (taken + length s) (c .unread) stream (c .on) (c .short) (omega (arith, c .less)) f))
+      let l₅ : length (s ++ t) ≡ length s + length t = length-append s t in
+      subst NeverShort (sym (ap (meaningFrom z taken u []) (append-assoc s t stream) ∙ run-said g (r .0) u q (omega arith) c taken (t ++ stream)))
+      (then-never (answered (taken + length s) reassemblyBuffer 0 (complete (length u + length p) es)) _
+      (run-suffices run (r .1) (taken + length s) (c .left) stream (c .on) (c .short) (omega (arith, c .less)) (λ k e. f k (e ∙ let i : taken + length s + length t ≡ taken + length (s ++ t) = omega arith in i))))
 
-  pub fits-suffices : {s : List ℕ} {said : List Said} (g : Legal (z .form) s said) → Fits z g → (taken : ℕ) → Suffices (meaningFrom z taken [] [] s)
+  pub fits-suffices : {s : List ℕ} {taken : ℕ} {answers : List (Dated Said)} (g : Legal (z .form) taken s answers) → Fits z g → NeverShort (meaningFrom z taken [] [] s)
   unfolding meaningFrom
-  fits-suffices legal-end r taken = tt
-  fits-suffices (legal-alone {bytes = s} {others = t} {first = first} g w on) r taken =
-      subst Suffices (sym (alone-said g w (r .0) taken t)) (then-suffices first _ (fits-suffices on (r .1) (taken + length s)))
-  fits-suffices (legal-run {bytes = s} {others = t} g w on) r taken = run-suffices g (r .0) taken [] t w nothing-there (r .1) (λ k. fits-suffices on (r .2) k)
+  fits-suffices legal-end r = tt
+  fits-suffices (legal-alone {taken = taken} {bytes = s} {stream = t} {es = es} g w on) r =
+      subst NeverShort (sym (alone-said g w (r .0) taken t)) (then-never (answered (taken + length s) segmentBuffer (headerLength (z .form)) es) _ (fits-suffices on (r .1)))
+  fits-suffices (legal-run {taken = taken} {bytes = s} {stream = t} run w on) r =
+      run-suffices run (r .0) taken [] t w nothing-there (r .1) (λ k e. subst (λ (i : ℕ). NeverShort (meaningFrom z i [] [] t)) (sym e) (fits-suffices on (r .2)))

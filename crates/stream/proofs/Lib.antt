@@ -4,11 +4,11 @@ pub mod Envelopes
 pub mod Heads
 pub mod Rest
 pub mod Calls
+pub mod Longer
 pub mod Pieces
 pub mod Segments
 pub mod Legal
 pub mod Sent
-pub mod Left
 pub mod Noting
 pub mod Turns
 pub mod Demand3

@@ -1,40 +1,44 @@
--- Demand 3, the first half: in whatever pieces a stream comes, a caller hears what the whole stream means; and each piece is soon used up. Assumes nothing.
-use Prim.Native.Nat.{ℕ, zero, suc, _+_, _≤_, _<_}
-use mathlib.Core.Path.{_≡_, refl, sym, ap, _∙_, subst}
-use mathlib.Core.Bool.{Bool, true, false, _&&_}
+-- Demand 3, the first half: in whatever pieces a stream comes, a caller hears what the whole stream means; and each piece is soon used up. The reader is a machine that keeps the law of
+-- `basis`; all else is said there. Assumes nothing.
+use Prim.Native.Nat.{ℕ, _+_, _≤_, _<_}
+use mathlib.Core.Path.{_≡_, refl, sym, ap, ap₂, _∙_, subst}
+use mathlib.Core.Bool.{Bool, true, false, cond, _&&_}
 use mathlib.Core.List.{List, [], _∷_, _++_}
 use native.Mathlib.Nat.{zero-add}
 use native.Mathlib.Omega.{arith}
 use lib.Dec.{leb, eqb}
-use lib.ListN.{length, take, drop}
+use lib.ListN.{length, take}
 use lib.Seq.{length-take-le}
 use Rattle.basis.specs.Front.{Front, incomplete}
-use Rattle.types.specs.Write.{joined}
+use Rattle.basis.specs.Lists.{joined}
+use Rattle.basis.specs.Machine.{Reply, handsOn, asksMore, refusesWith, Step, refusedAfter, holding, refusedWith, Uses, by-more, by-refusal, after-one, Hears, all-given, one-used, one-refused}
+use Rattle.basis.proofs.Machine.{Machine, Does, Kept, Lawful, Ends, asks-refuses, hands-refuses, same-refusal, ends, Open, heard-is, hears-all}
 use Rattle.types.proofs.Cut.{both-true}
 use Rattle.segment.specs.Header.{Form, header, headerLength}
 use Rattle.segment.specs.Segment.{Segment, segmentLength}
 use Rattle.segment.proofs.Cases.{payload-cut, payload-is}
 use Rattle.segment.proofs.HeaderLaid.{head-least, head-most}
-use Rattle.frame_decoder.specs.Reader.{Phase, inHeader, inRest, inSegment, inReassembly, stopped, Reader, fresh, bytesAt, Answer, envelopeAt, leftover, more, refused, minSegment, maxSegment, minReassembly, maxReassembly, between, lentFits, countsFit, admissible}
+use Rattle.frame_decoder.specs.Reader.{Phase, inHeader, inRest, inSegment, inReassembly, stopped, Reader, fresh, Answer, envelopeAt, leftover, more, refused, minSegment, maxSegment, minReassembly, maxReassembly, between, lentFits, countsFit, admissible}
 use Rattle.frame_decoder.specs.Call.{Outcome, outcome, call}
 use Rattle.frame_decoder.specs.Private.Inside.{Counts, wanted}
 use Rattle.frame_decoder.proofs.Admits.{between-true}
-use Rattle.stream.specs.Meaning.{Lent, lent, Said, envelopeOf, leftoverOf, Meaning, says, refusedAfter, holding, segmentIn, judged, meaningFrom, meaning}
-use Rattle.stream.specs.Caller.{inRange, segmentHeld, pendingHeld, holds, Hears, all-given, hears-more, hears-envelope, hears-leftover, hears-refusal, UsedUp, by-more, by-refusal, after-envelope, after-leftover, undelivered}
-use Rattle.stream.specs.Private.Inside.{lentOf, judging, restAt, rest, Agrees, Ready}
+use Rattle.stream.specs.Meaning.{lent, Said, Held, held, Meaning, segmentIn, judged, meaningFrom, meaning}
+use Rattle.stream.specs.Caller.{inRange, State, state, replyOf, stepOf, reads, segmentHeld, pendingHeld, holds, start, HearsOf, heardOf, Asked}
+use Rattle.stream.specs.Private.Inside.{lentOf, judging, restAt, rest, Agrees, Untouched, Ready, Wants, ahead}
 use Rattle.stream.proofs.Heads.{in-header, roomy-header, nothing-seen}
-use Rattle.stream.proofs.Calls.{ready-admissible, admissible-ready, Spoken, Stopped, Waiting, Told, Called, call-refused, called}
+use Rattle.stream.proofs.Calls.{admissible-ready, Told, Called, call-refused, called}
+use Rattle.stream.proofs.Longer.{asksFor, call-longer, call-joined}
 
 -- ---- a reader that waits for bytes
 
 -- then nothing is to come but what it holds
-module _ (r : Reader) (seg re : List ℕ) (t : Ready r seg re) (taken : ℕ) where
-  quiet : (pending s : List ℕ) → segmentIn (lentOf r) s ≡ incomplete → judging (lentOf r) pending s taken [] ≡ holding s pending
+module _ (r : Reader) (seg re : List ℕ) (t : Ready (state r seg re)) (taken : ℕ) where
+  quiet : (pending s : List ℕ) → segmentIn (lentOf r) s ≡ incomplete → judging (lentOf r) pending s taken [] ≡ holding (held s pending)
   unfolding meaningFrom
   quiet pending s e = ap (λ (f : Front Segment). judged (lentOf r) f pending s taken (λ pending′ s′. meaningFrom (lentOf r) taken pending′ s′ [])) e
 
   holds-at : (q : Phase) → Counts (r .form) (length seg) (r .pending) q → Agrees (r .form) q seg → 0 < wanted (r .form) q
-      → restAt (lentOf r) (r .pending) q seg re taken [] ≡ holding (segmentHeld q seg) (pendingHeld (r .pending) q re)
+      → restAt (lentOf r) (r .pending) q seg re taken [] ≡ holding (held (segmentHeld q seg) (pendingHeld (r .pending) q re))
   holds-at (inHeader n) k a w =
       let l : length (take n seg) ≡ n = length-take-le n seg (omega (arith, head-most (r .form), t .ok .least)) in
       quiet (take (r .pending) re) (take n seg) (in-header (lentOf r) (take n seg) (omega arith))
@@ -46,138 +50,136 @@ module _ (r : Reader) (seg re : List ℕ) (t : Ready r seg re) (taken : ℕ) whe
   holds-at (inReassembly at) k a w = absurd (omega arith)
   holds-at (stopped number) k a w = absurd (omega arith)
 
-  pub holds-rest : Agrees (r .form) (r .phase) seg → 0 < wanted (r .form) (r .phase) → rest r seg re taken [] ≡ holds r seg re
-  holds-rest = holds-at (r .phase) (t .ok .counts)
+-- ---- the law of a call
 
--- ---- what is heard is what was to come
+abbrev pub reader : Machine State Said ℕ Held
+reader = record { call = reads; holds = holds; Good = Ready; Sure = Untouched; Waits = Wants; ahead = ahead; rest = rest }
 
--- where no piece is left, the reader waits
-abbrev Open : Reader → List (List ℕ) → Type 0
-Open r [] = 0 < wanted (r .form) (r .phase)
-Open r (piece ∷ pieces) = Unit
+module _ (s : State) (piece : List ℕ) (g : Ready s) where
+  abbrev r : Reader
+  r = s .reader
 
-open-waiting : (r : Reader) (pieces : List (List ℕ)) → 0 < wanted (r .form) (r .phase) → Open r pieces
-open-waiting r [] w = w
-open-waiting r (piece ∷ pieces) w = tt
+  abbrev seg : List ℕ
+  seg = s .segment
 
--- what a call told, where it is known what it answered
-pub told-by : {r x : Reader} {seg re piece seg′ re′ : List ℕ} {answer : Answer} {n : ℕ} → Ready r seg re → call r seg re piece ≡ outcome answer n x seg′ re′ → Called r seg re piece 0 (outcome answer n x seg′ re′)
-told-by {r} {x} {seg} {re} {piece} t e = subst (Called r seg re piece 0) e (called r seg re piece t)
+  abbrev re : List ℕ
+  re = s .reassembly
 
-pub heard-is : (r : Reader) (seg re : List ℕ) (taken : ℕ) (pieces : List (List ℕ)) {m : Meaning} → Hears r seg re taken pieces m → Ready r seg re → Agrees (r .form) (r .phase) seg → Open r pieces
-    → m ≡ rest r seg re taken (joined pieces)
-unfolding joined
-heard-is r seg re taken [] all-given t a w = sym (holds-rest r seg re t taken a w)
-heard-is r seg re taken (piece ∷ pieces) (hears-more {r′ = r′} {segment′ = seg′} {reassembly′ = re′} {n = n} e on) t a w =
-    let c = told-by t e in
-    let is : n ≡ c .count = c .is ∙ zero-add (c .count) in
-    heard-is r′ seg′ re′ (taken + n) pieces on (c .ready) (c .told .agrees a) (open-waiting r′ pieces (c .told .wanting))
-    ∙ ap (λ (k : ℕ). rest r′ seg′ re′ (taken + k) (joined pieces)) is
-    ∙ sym (c .told .same a taken (joined pieces))
-heard-is r seg re taken (piece ∷ pieces) (hears-envelope {r′ = r′} {segment′ = seg′} {reassembly′ = re′} {n = n} {buffer = buffer} {at = at} {e = v} e on) t a w =
-    let c = told-by t e in
-    let is : n ≡ c .count = c .is ∙ zero-add (c .count) in
-    ap (says (envelopeOf (bytesAt buffer seg′ re′ at) v))
-    (heard-is r′ seg′ re′ (taken + n) (drop n piece ∷ pieces) on (c .ready) (c .told .agrees a) tt ∙ ap (λ (k : ℕ). rest r′ seg′ re′ (taken + k) (drop k piece ++ joined pieces)) is)
-    ∙ sym (c .told .same a taken (joined pieces))
-heard-is r seg re taken (piece ∷ pieces) (hears-leftover {r′ = r′} {segment′ = seg′} {reassembly′ = re′} {n = n} {k = left} e on) t a w =
-    let c = told-by t e in
-    let is : n ≡ c .count = c .is ∙ zero-add (c .count) in
-    ap (says (leftoverOf left))
-    (heard-is r′ seg′ re′ (taken + n) (drop n piece ∷ pieces) on (c .ready) (c .told .agrees a) tt ∙ ap (λ (k : ℕ). rest r′ seg′ re′ (taken + k) (drop k piece ++ joined pieces)) is)
-    ∙ sym (c .told .same a taken (joined pieces))
-heard-is r seg re taken (piece ∷ pieces) (hears-refusal {n = n} {number = number} e) t a w =
-    let c = told-by t e in
-    let is : n ≡ c .count = c .is ∙ zero-add (c .count) in
-    ap (λ (k : ℕ). refusedAfter number (taken + k)) is ∙ sym (c .told .same a taken (joined pieces))
+  module _ {n : ℕ} {x : Reader} {S R : List ℕ} where
+    -- an answer but more
+    answers : {answer : Answer} → (asksFor answer ≡ 1 → ⊥) → call r seg re piece ≡ outcome answer n x S R → (q : List ℕ) → reads s (piece ++ q) ≡ stepOf (outcome answer n x S R)
+    answers m e q = ap stepOf (call-longer r seg re piece q g m e)
 
--- ---- and it is heard
+    does : (answer : Answer) → call r seg re piece ≡ outcome answer n x S R → Ready (state x S R) → Told s piece n (replyOf answer S R) (state x S R) → Does reader s piece n (replyOf answer S R) (state x S R)
+    unfolding asksFor
+    does (envelopeAt buffer at v) e k t = record { less = t .less; sure = t .agrees; same = t .same; longer = answers (λ i. omega arith) e }
+    does (leftover left) e k t = record { less = t .less; sure = t .agrees; same = t .same; longer = answers (λ i. omega arith) e }
+    does more e k t = record { all = t .all; waits = t .wanting; sure = t .agrees; same = t .same; both = λ q. ap stepOf (call-joined r seg re piece q g k e) }
+    does (refused number) e k t = record { same = t .same; longer = answers (λ i. omega arith) e }
 
--- a piece is used up after at most so many answers
-used-by : (fuel : ℕ) (r : Reader) (seg re piece : List ℕ) → Ready r seg re → undelivered (r .pending) (r .phase) + length piece < fuel
-    → (n : ℕ) × UsedUp r seg re piece n × (n ≤ undelivered (r .pending) (r .phase) + length piece)
-used-by zero r seg re piece t h = absurd (omega arith)
-used-by (suc fuel) r seg re piece t h =
-    let o : Outcome = call r seg re piece in
-    by (o .answer) (o .taken) (o .reader) (o .segment) (o .reassembly) refl (called r seg re piece t) (λ x seg′ re′ piece′ t′ h′. used-by fuel x seg′ re′ piece′ t′ h′)
-  where
-    by : (answer : Answer) (k : ℕ) (x : Reader) (seg′ re′ : List ℕ) → call r seg re piece ≡ outcome answer k x seg′ re′ → Called r seg re piece 0 (outcome answer k x seg′ re′)
-        → ((x : Reader) (seg′ re′ piece′ : List ℕ) → Ready x seg′ re′ → undelivered (x .pending) (x .phase) + length piece′ < fuel
-        → (n : ℕ) × UsedUp x seg′ re′ piece′ n × (n ≤ undelivered (x .pending) (x .phase) + length piece′))
-        → (n : ℕ) × UsedUp r seg re piece n × (n ≤ undelivered (r .pending) (r .phase) + length piece)
-    by more k x seg′ re′ e c goes-on = (0, by-more e, omega arith)
-    by (refused number) k x seg′ re′ e c goes-on = (0, by-refusal e, omega arith)
-    by (leftover left) k x seg′ re′ e c goes-on =
-        let is : k ≡ c .count = c .is ∙ zero-add (c .count) in
-        let less : undelivered (x .pending) (x .phase) + length (drop k piece) < undelivered (r .pending) (r .phase) + length piece =
-        subst (λ (i : ℕ). undelivered (x .pending) (x .phase) + length (drop i piece) < undelivered (r .pending) (r .phase) + length piece) (sym is) (c .told .less)
-        in
-        let i = goes-on x seg′ re′ (drop k piece) (c .ready) (omega arith) in
-        (suc (i .0), after-leftover e (i .1), omega (arith, i .2))
-    by (envelopeAt buffer at v) k x seg′ re′ e c goes-on =
-        let is : k ≡ c .count = c .is ∙ zero-add (c .count) in
-        let less : undelivered (x .pending) (x .phase) + length (drop k piece) < undelivered (r .pending) (r .phase) + length piece =
-        subst (λ (i : ℕ). undelivered (x .pending) (x .phase) + length (drop i piece) < undelivered (r .pending) (r .phase) + length piece) (sym is) (c .told .less)
-        in
-        let i = goes-on x seg′ re′ (drop k piece) (c .ready) (omega arith) in
-        (suc (i .0), after-envelope e (i .1), omega (arith, i .2))
+  kept : Kept reader s piece (reads s piece)
+  kept =
+      let c = called r seg re piece g in
+      let o : Outcome = call r seg re piece in
+      let is : o .taken ≡ c .count = c .is ∙ zero-add (c .count) in
+      record {
+        within = omega (arith, c .within);
+        good = c .ready;
+        does = does (o .answer) refl (c .ready) (subst (λ (k : ℕ). Told s piece k (replyOf (o .answer) (o .segment) (o .reassembly)) (state (o .reader) (o .segment) (o .reassembly))) (sym is) (c .told));
+      }
+
+pub lawful : Lawful reader
+lawful =
+    record {
+      keeps = kept;
+      quiet = λ s taken g a w. holds-at (s .reader) (s .segment) (s .reassembly) g taken (s .reader .phase) (g .ok .counts) a w;
+    }
+
+-- ---- every reader
 
 -- *More* or a refusal comes at the latest after as many other answers as bytes were held, undelivered or lent: of every reader, over all buffers and every piece.
-pub soon-used-up : (r : Reader) (seg re piece : List ℕ) → (n : ℕ) × UsedUp r seg re piece n × (n ≤ undelivered (r .pending) (r .phase) + length piece)
-soon-used-up r seg re piece = by (admissible r (length seg) (length re)) refl
+pub soon-used-up : (s : State) (taken : ℕ) (piece : List ℕ) → Ends reads s taken piece (ahead s + length piece)
+soon-used-up s taken piece = by (admissible (s .reader) (length (s .segment)) (length (s .reassembly))) refl
   where
-    by : (b : Bool) → admissible r (length seg) (length re) ≡ b → (n : ℕ) × UsedUp r seg re piece n × (n ≤ undelivered (r .pending) (r .phase) + length piece)
-    by true e = used-by (suc (undelivered (r .pending) (r .phase) + length piece)) r seg re piece (admissible-ready r seg re e) (omega arith)
-    by false e = (0, by-refusal (call-refused r seg re piece e), omega arith)
+    by : (b : Bool) → admissible (s .reader) (length (s .segment)) (length (s .reassembly)) ≡ b → Ends reads s taken piece (ahead s + length piece)
+    by true e = ends reader lawful s taken piece (admissible-ready (s .reader) (s .segment) (s .reassembly) e)
+    by false e =
+        record {
+          handed = [];
+          close = refusedWith 1;
+          end = taken + 0;
+          last = s;
+          uses = by-refusal (ap stepOf (call-refused (s .reader) (s .segment) (s .reassembly) piece e));
+          soon = omega arith;
+        }
 
--- once a piece is used up the caller goes on, and so hears all to its end
-module _ (pieces : List (List ℕ)) (next : (r : Reader) (seg re : List ℕ) (taken : ℕ) → (m : Meaning) × Hears r seg re taken pieces m) where
-  hears-used : {r : Reader} {seg re piece : List ℕ} {n : ℕ} → UsedUp r seg re piece n → (taken : ℕ) → (m : Meaning) × Hears r seg re taken (piece ∷ pieces) m
-  hears-used (by-more {n = k} e) taken = let i = next _ _ _ (taken + k) in (i .0, hears-more e (i .1))
-  hears-used (by-refusal {n = k} {number = number} e) taken = (refusedAfter number (taken + k), hears-refusal e)
-  hears-used (after-envelope {n = k} e on) taken = let i = hears-used on (taken + k) in (_, hears-envelope e (i .1))
-  hears-used (after-leftover {n = k} e on) taken = let i = hears-used on (taken + k) in (_, hears-leftover e (i .1))
-
-pub hears : (pieces : List (List ℕ)) (r : Reader) (seg re : List ℕ) (taken : ℕ) → (m : Meaning) × Hears r seg re taken pieces m
-hears [] r seg re taken = (holds r seg re, all-given)
-hears (piece ∷ pieces) r seg re taken = hears-used pieces (hears pieces) (soon-used-up r seg re piece .1) taken
+-- so the caller's loop always comes to its end
+pub hears : (pieces : List (List ℕ)) (s : State) (taken : ℕ) → (m : Meaning) × Hears reads holds s taken pieces m
+hears = hears-all reads holds (λ s piece. ahead s + length piece) soon-used-up
 
 -- ---- a fresh reader
 
-module _ (f : Form) (seg re : List ℕ) (range : inRange (length seg) (length re) ≡ true) where
-  pub fresh-ready : Ready (fresh f (length seg) (length re)) seg re
-  unfolding inRange
-  fresh-ready =
-      let w = both-true (between minSegment maxSegment (length seg)) (between minReassembly maxReassembly (length re)) range in
-      let a = between-true minSegment maxSegment (length seg) (w .0) in
-      let b = between-true minReassembly maxReassembly (length re) (w .1) in
-      record {
-        segment = refl;
-        reassembly = refl;
-        least = b .0;
-        ok = record { least = a .0; most = a .1; held = omega arith; largest = b .1; counts = omega arith };
-      }
+module _ (f : Form) (seg re : List ℕ) where
+  module _ (range : inRange (length seg) (length re) ≡ true) where
+    pub fresh-ready : Ready (start f seg re)
+    unfolding inRange
+    fresh-ready =
+        let w = both-true (between minSegment maxSegment (length seg)) (between minReassembly maxReassembly (length re)) range in
+        let a = between-true minSegment maxSegment (length seg) (w .0) in
+        let b = between-true minReassembly maxReassembly (length re) (w .1) in
+        record {
+          segment = refl;
+          reassembly = refl;
+          least = b .0;
+          ok = record { least = a .0; most = a .1; held = omega arith; largest = b .1; counts = omega arith };
+        }
 
-  -- what is to come from it is what the stream means
-  pub fresh-rest : (stream : List ℕ) → rest (fresh f (length seg) (length re)) seg re 0 stream ≡ meaning (lent f (length seg) (length re)) stream
-  fresh-rest stream =
-      ap (λ (x : Front Segment). judged (lent f (length seg) (length re)) x [] [] 0 (λ pending′ s′. meaningFrom (lent f (length seg) (length re)) 0 pending′ s′ stream)) (nothing-seen (lent f (length seg) (length re)))
+    pub heard-all : (stream : List ℕ) → heardOf f (length seg) (length re) stream ≡ meaning (lent f (length seg) (length re)) stream
+    unfolding heardOf
+    heard-all stream = ap (λ (b : Bool). cond b (meaning (lent f (length seg) (length re)) stream) (refusedAfter 1 0)) range
 
-  -- However the stream is cut: a caller hears what the whole stream means, and nothing else.
-  pub pieces-do-not-matter : (pieces : List (List ℕ)) {m : Meaning} → Hears (fresh f (length seg) (length re)) seg re 0 pieces m → m ≡ meaning (lent f (length seg) (length re)) (joined pieces)
-  pieces-do-not-matter pieces h =
-      heard-is (fresh f (length seg) (length re)) seg re 0 pieces h fresh-ready tt (open-waiting (fresh f (length seg) (length re)) pieces (omega (arith, head-least f))) ∙ fresh-rest (joined pieces)
+    -- what is to come from it is what the stream means
+    pub fresh-rest : (stream : List ℕ) → rest (start f seg re) 0 stream ≡ heardOf f (length seg) (length re) stream
+    fresh-rest stream =
+        ap (λ (x : Front Segment). judged (lent f (length seg) (length re)) x [] [] 0 (λ pending′ s′. meaningFrom (lent f (length seg) (length re)) 0 pending′ s′ stream)) (nothing-seen (lent f (length seg) (length re)))
+        ∙ sym (heard-all stream)
 
-  -- And it does hear it.
-  pub pieces-are-heard : (pieces : List (List ℕ)) → Hears (fresh f (length seg) (length re)) seg re 0 pieces (meaning (lent f (length seg) (length re)) (joined pieces))
-  pieces-are-heard pieces =
-      let i = hears pieces (fresh f (length seg) (length re)) seg re 0 in
-      subst (λ (m : Meaning). Hears (fresh f (length seg) (length re)) seg re 0 pieces m) (pieces-do-not-matter pieces (i .1)) (i .1)
+  module _ (range : inRange (length seg) (length re) ≡ false) where
+    pub heard-none : (stream : List ℕ) → heardOf f (length seg) (length re) stream ≡ refusedAfter 1 0
+    unfolding heardOf
+    heard-none stream = ap (λ (b : Bool). cond b (meaning (lent f (length seg) (length re)) stream) (refusedAfter 1 0)) range
 
--- over lengths out of range it is refused with 1
-pub out-of-range : (f : Form) (seg re : List ℕ) → inRange (length seg) (length re) ≡ false → admissible (fresh f (length seg) (length re)) (length seg) (length re) ≡ false
-unfolding admissible lentFits inRange
-out-of-range f seg re e =
-    let a : ℕ = length seg in
-    let b : ℕ = length re in
-    ap (λ (t : Bool). (t && (eqb a a && eqb b b)) && (leb 0 b && countsFit f a 0 (inHeader 0))) e
+    -- each call is refused with 1
+    pub out-of-range : (piece : List ℕ) → reads (start f seg re) piece ≡ stepOf (outcome (refused 1) 0 (fresh f (length seg) (length re)) seg re)
+    unfolding admissible lentFits inRange
+    out-of-range piece =
+        let a : ℕ = length seg in
+        let b : ℕ = length re in
+        ap stepOf
+        (call-refused (fresh f a b) seg re piece (ap (λ (t : Bool). (t && (eqb a a && eqb b b)) && (leb 0 b && countsFit f a 0 (inHeader 0))) range))
+
+    refused-first : {taken : ℕ} {piece : List ℕ} {pieces : List (List ℕ)} {m : Meaning} → Hears reads holds (start f seg re) taken (piece ∷ pieces) m → m ≡ refusedAfter 1 (taken + 0)
+    refused-first {piece = piece} (one-used (by-more e) on) = absurd (asks-refuses (sym e ∙ out-of-range piece))
+    refused-first {piece = piece} (one-used (after-one e u) on) = absurd (hands-refuses (sym e ∙ out-of-range piece))
+    refused-first {taken} {piece} (one-refused (by-refusal e)) =
+        let q = sym e ∙ out-of-range piece in
+        ap₂ refusedAfter (same-refusal q) (ap (λ (o : Step State Said ℕ). taken + o .taken) q)
+    refused-first {piece = piece} (one-refused (after-one e u)) = absurd (hands-refuses (sym e ∙ out-of-range piece))
+
+  waiting : (pieces : List (List ℕ)) → Open reader lawful (start f seg re) pieces
+  waiting [] = omega (arith, head-least f)
+  waiting (piece ∷ pieces) = tt
+
+  by-range : (b : Bool) → inRange (length seg) (length re) ≡ b → (pieces : List (List ℕ)) → Asked b pieces → {m : Meaning} → HearsOf f seg re pieces m → m ≡ heardOf f (length seg) (length re) (joined pieces)
+  by-range true range pieces asked h = heard-is reader lawful h (fresh-ready range) tt (waiting pieces) ∙ fresh-rest range (joined pieces)
+  by-range false range [] asked h = absurd asked
+  by-range false range (piece ∷ pieces) asked h = refused-first range h ∙ sym (heard-none range (joined (piece ∷ pieces)))
+
+  module _ (pieces : List (List ℕ)) (asked : Asked (inRange (length seg) (length re)) pieces) where
+    -- However the stream is cut: a caller hears what the whole stream means, and nothing else.
+    pub pieces-do-not-matter : {m : Meaning} → HearsOf f seg re pieces m → m ≡ heardOf f (length seg) (length re) (joined pieces)
+    pieces-do-not-matter h = by-range (inRange (length seg) (length re)) refl pieces asked h
+
+    -- And it does hear it.
+    pub pieces-are-heard : HearsOf f seg re pieces (heardOf f (length seg) (length re) (joined pieces))
+    pieces-are-heard = let i = hears pieces (start f seg re) 0 in subst (HearsOf f seg re pieces) (pieces-do-not-matter (i .1)) (i .1)

@@ -10,6 +10,7 @@ use lib.Dec.{leb, eqb}
 use lib.ListN.{length, take, drop, length-append}
 use lib.Seq.{length-take-le}
 use Rattle.basis.specs.Front.{Front, incomplete, refuses, whole, ifWhole}
+use Rattle.basis.specs.Machine.{Reply, handsOn, asksMore, refusesWith, dated, says, refusedAfter}
 use Rattle.types.specs.Number.{part}
 use Rattle.types.specs.Read.{place}
 use Rattle.types.specs.Write.{put}
@@ -26,10 +27,10 @@ use Rattle.frame_decoder.specs.Reader.{Phase, inHeader, inRest, inSegment, inRe
 use Rattle.frame_decoder.specs.Settle.{Due, due, waits, Settled, settled, refusing, headerDue, leftoverDue, fromSegment, readSegment, movedDown, fromPending, readPending, readAlone, readJoined, received, segmentDue, settleAt, settle}
 use Rattle.frame_decoder.specs.Private.Inside.{Counts, Admitted}
 use Rattle.frame_decoder.proofs.Parts.{part-taken}
-use Rattle.stream.specs.Meaning.{Lent, lent, Said, envelopeOf, leftoverOf, Meaning, says, refusedAfter, behindHeader, segmentIn, envelopesIn, dropping, bySegment, judged, meaningFrom}
-use Rattle.stream.specs.Caller.{undelivered}
+use Rattle.stream.specs.Meaning.{Lent, lent, Said, envelopeOf, leftoverOf, Meaning, behindHeader, segmentIn, envelopesIn, dropping, bySegment, judged, meaningFrom}
+use Rattle.stream.specs.Caller.{state, replyOf, undelivered}
 use Rattle.stream.specs.Collect.{saidLength}
-use Rattle.stream.specs.Private.Inside.{lentOf, judging, restAt, rest, Agrees}
+use Rattle.stream.specs.Private.Inside.{lentOf, restAt, rest, Agrees}
 use Rattle.stream.proofs.Lists.{part-rest, part-first, bytes-part, take-put}
 use Rattle.stream.proofs.Envelopes.{none-whole, first-refused, first-whole}
 use Rattle.stream.proofs.Heads.{by-header, roomy-header, nothing-seen}
@@ -41,7 +42,7 @@ pub record Speaks (r : Reader) (q : Phase) (seg re : List ℕ) (x : Said) (r′ 
   pub less : undelivered (r′ .pending) (r′ .phase) < undelivered (r .pending) q
   pub small : saidLength x ≤ maxReassembly
   pub agrees : Agrees (r′ .form) (r′ .phase) seg
-  pub same : Agrees (r .form) q seg → (taken : ℕ) (stream : List ℕ) → restAt (lentOf r) (r .pending) q seg re taken stream ≡ says x (rest r′ seg re′ taken stream)
+  pub same : Agrees (r .form) q seg → (taken : ℕ) (stream : List ℕ) → restAt (lentOf r) (r .pending) q seg re taken stream ≡ says (dated taken x) (rest (state r′ seg re′) taken stream)
 
 pub record Stops (r : Reader) (q : Phase) (seg re : List ℕ) (number : ℕ) (r′ : Reader) : Type 0 where
   pub lends : lentOf r′ ≡ lentOf r
@@ -52,25 +53,29 @@ pub record Waits (r : Reader) (q : Phase) (seg re : List ℕ) (r′ : Reader) (r
   pub lends : lentOf r′ ≡ lentOf r
   pub most : undelivered (r′ .pending) (r′ .phase) ≤ undelivered (r .pending) q
   pub agrees : Agrees (r .form) q seg → Agrees (r′ .form) (r′ .phase) seg
-  pub same : Agrees (r .form) q seg → (taken : ℕ) (stream : List ℕ) → restAt (lentOf r) (r .pending) q seg re taken stream ≡ rest r′ seg re′ taken stream
+  pub same : Agrees (r .form) q seg → (taken : ℕ) (stream : List ℕ) → restAt (lentOf r) (r .pending) q seg re taken stream ≡ rest (state r′ seg re′) taken stream
+
+-- more is never due by itself
+abbrev pub Replies : Reader → Phase → List ℕ → List ℕ → Reply Said ℕ → Reader → List ℕ → Type 0
+Replies r q seg re (handsOn x) r′ re′ = Speaks r q seg re x r′ re′
+Replies r q seg re asksMore r′ re′ = ⊥
+Replies r q seg re (refusesWith number) r′ re′ = Stops r q seg re number r′
 
 abbrev pub Tells : Reader → Phase → List ℕ → List ℕ → Due → List ℕ → Type 0
-Tells r q seg re (due (envelopeAt buffer at e) r′) re′ = Speaks r q seg re (envelopeOf (bytesAt buffer seg re′ at) e) r′ re′
-Tells r q seg re (due (leftover n) r′) re′ = Speaks r q seg re (leftoverOf n) r′ re′
-Tells r q seg re (due more r′) re′ = ⊥
-Tells r q seg re (due (refused number) r′) re′ = Stops r q seg re number r′
+Tells r q seg re (due answer r′) re′ = Replies r q seg re (replyOf answer seg re′) r′ re′
 Tells r q seg re (waits r′) re′ = Waits r q seg re r′ re′
 
 -- another reader from which the same is to come, and no more of it
 module _ (r x : Reader) (q p : Phase) (seg re re₁ : List ℕ) (l : lentOf x ≡ lentOf r) (m : undelivered (x .pending) p ≤ undelivered (r .pending) q) (agrees : Agrees (r .form) q seg → Agrees (x .form) p seg)
     (s : Agrees (r .form) q seg → (taken : ℕ) (stream : List ℕ) → restAt (lentOf r) (r .pending) q seg re taken stream ≡ restAt (lentOf x) (x .pending) p seg re₁ taken stream) where
+  replied : (reply : Reply Said ℕ) (r′ : Reader) (re′ : List ℕ) → Replies x p seg re₁ reply r′ re′ → Replies r q seg re reply r′ re′
+  replied (handsOn said) r′ re′ t =
+      record { lends = t .lends ∙ l; less = omega (arith, t .less); small = t .small; agrees = t .agrees; same = λ a taken stream. s a taken stream ∙ t .same (agrees a) taken stream }
+  replied asksMore r′ re′ t = t
+  replied (refusesWith number) r′ re′ t = record { lends = t .lends ∙ l; stays = t .stays; same = λ a taken stream. s a taken stream ∙ t .same (agrees a) taken stream }
+
   pub before : (d : Due) (re′ : List ℕ) → Tells x p seg re₁ d re′ → Tells r q seg re d re′
-  before (due (envelopeAt buffer at e) r′) re′ t =
-      record { lends = t .lends ∙ l; less = omega (arith, t .less); small = t .small; agrees = t .agrees; same = λ a taken stream. s a taken stream ∙ t .same (agrees a) taken stream }
-  before (due (leftover n) r′) re′ t =
-      record { lends = t .lends ∙ l; less = omega (arith, t .less); small = t .small; agrees = t .agrees; same = λ a taken stream. s a taken stream ∙ t .same (agrees a) taken stream }
-  before (due more r′) re′ t = t
-  before (due (refused number) r′) re′ t = record { lends = t .lends ∙ l; stays = t .stays; same = λ a taken stream. s a taken stream ∙ t .same (agrees a) taken stream }
+  before (due answer r′) re′ t = replied (replyOf answer seg re′) r′ re′ t
   before (waits r′) re′ t =
       record { lends = t .lends ∙ l; most = omega (arith, t .most); agrees = λ a. t .agrees (agrees a); same = λ a taken stream. s a taken stream ∙ t .same (agrees a) taken stream }
 
@@ -96,14 +101,14 @@ module _ (r : Reader) (seg re : List ℕ) where
     unread-length = length-part seg (headerLength (r .form) + at) (len - at) (omega arith)
 
     drops : ℕ → List ℕ → ℕ → Bool → Meaning
-    drops taken stream n t = cond t (meaningFrom z taken pending [] stream) (says (leftoverOf n) (meaningFrom z taken pending [] stream))
+    drops taken stream n t = cond t (meaningFrom z taken pending [] stream) (says (dated taken (leftoverOf n)) (meaningFrom z taken pending [] stream))
 
     -- no envelope is left
     left-over : (t : Bool) → eqb (len - at) 0 ≡ t → envelope unread ≡ incomplete → (taken : ℕ) (stream : List ℕ)
         → restAt z (r .pending) (inSegment len at) seg re taken stream ≡ drops taken stream (len - at) t
     unfolding drops
     left-over t e k taken stream =
-        none-whole taken _ unread k ∙ ap (λ (n : ℕ). drops taken stream n (eqb n 0)) unread-length ∙ ap (drops taken stream (len - at)) e
+        none-whole taken segmentBuffer _ _ unread k ∙ ap (λ (n : ℕ). drops taken stream n (eqb n 0)) unread-length ∙ ap (drops taken stream (len - at)) e
 
     tells-left : (t : Bool) → eqb (len - at) 0 ≡ t → envelope unread ≡ incomplete
         → Tells r (inSegment len at) seg re (cond t (waits (inPhase r (inHeader 0))) (due (leftover (len - at)) (inPhase r (inHeader 0)))) re
@@ -122,13 +127,13 @@ module _ (r : Reader) (seg re : List ℕ) where
           less = omega arith;
           small = omega arith;
           agrees = tt;
-          same = λ a taken stream. left-over false e k taken stream ∙ ap (says (leftoverOf (len - at))) (sym (begins z (r .pending) seg re taken stream));
+          same = λ a taken stream. left-over false e k taken stream ∙ ap (says (dated taken (leftoverOf (len - at)))) (sym (begins z (r .pending) seg re taken stream));
         }
 
     tells-from : (f : Front Envelope) → envelope unread ≡ f → Tells r (inSegment len at) seg re (fromSegment r len at f) re
     unfolding fromSegment leftoverDue
     tells-from incomplete e = tells-left (eqb (len - at) 0) refl e
-    tells-from (refuses number) e = record { lends = refl; stays = refl; same = λ a taken stream. first-refused taken _ unread number e }
+    tells-from (refuses number) e = record { lends = refl; stays = refl; same = λ a taken stream. first-refused taken segmentBuffer _ _ unread number e }
     tells-from (whole v) e =
         let n : ℕ = v .size in
         let l : length unread ≡ len - at = unread-length in
@@ -136,9 +141,9 @@ module _ (r : Reader) (seg re : List ℕ) where
         let bytes : take n unread ≡ bytesAt segmentBuffer seg re (place (headerLength (r .form) + at) n) =
         part-first seg (headerLength (r .form) + at) (len - at) n fits ∙ sym (bytes-part seg (headerLength (r .form) + at) n (omega arith))
         in
+        let at-next : headerLength (r .form) + at + n ≡ headerLength (r .form) + (at + n) = omega arith in
         let on : drop n unread ≡ part seg (headerLength (r .form) + (at + n)) (len - (at + n)) =
-        part-rest seg (headerLength (r .form) + at) (len - at) n
-        ∙ ap₂ (part seg) (let i : headerLength (r .form) + at + n ≡ headerLength (r .form) + (at + n) = omega arith in i) (let i : len - at - n ≡ len - (at + n) = omega arith in i)
+        part-rest seg (headerLength (r .form) + at) (len - at) n ∙ ap₂ (part seg) at-next (let i : len - at - n ≡ len - (at + n) = omega arith in i)
         in
         record {
           lends = refl;
@@ -146,8 +151,9 @@ module _ (r : Reader) (seg re : List ℕ) where
           small = subst (λ (k : ℕ). k ≤ maxReassembly) (sym (length-take-le n unread (omega arith)) ∙ ap length bytes) (omega arith);
           agrees = tt;
           same =
-              λ a taken stream. first-whole taken _ unread v e
-              ∙ ap₂ (λ (b u : List ℕ). says (envelopeOf b v) (envelopesIn 0 u taken (λ unread. dropping unread (meaningFrom z taken pending [] stream)))) bytes on;
+              λ a taken stream. first-whole taken segmentBuffer _ _ unread v e
+              ∙ ap₂ (λ (b u : List ℕ). says (dated taken (envelopeOf segmentBuffer (place (headerLength (r .form) + at) n) b v)) (envelopesIn taken segmentBuffer (headerLength (r .form) + at + n) 0 u (λ unread. dropping taken unread (meaningFrom z taken pending [] stream)))) bytes on
+              ∙ ap (λ (k : ℕ). says (dated taken (envelopeOf segmentBuffer (place (headerLength (r .form) + at) n) (bytesAt segmentBuffer seg re (place (headerLength (r .form) + at) n)) v)) (envelopesIn taken segmentBuffer k 0 (part seg (headerLength (r .form) + (at + n)) (len - (at + n))) (λ unread. dropping taken unread (meaningFrom z taken pending [] stream)))) at-next;
         }
 
     pub tells-segment : Tells r (inSegment len at) seg re (readSegment r seg len at) re
@@ -172,11 +178,11 @@ module _ (r : Reader) (seg re : List ℕ) where
           most = omega arith;
           agrees = λ a. tt;
           same =
-              λ a taken stream. none-whole taken _ unread-pending e
+              λ a taken stream. none-whole taken reassemblyBuffer _ _ unread-pending e
               ∙ ap (λ (u : List ℕ). meaningFrom z taken u [] stream) (sym front)
               ∙ sym (begins z n seg (movedDown re at n) taken stream);
         }
-    tells-pended (refuses number) e = record { lends = refl; stays = refl; same = λ a taken stream. first-refused taken _ unread-pending number e }
+    tells-pended (refuses number) e = record { lends = refl; stays = refl; same = λ a taken stream. first-refused taken reassemblyBuffer _ _ unread-pending number e }
     tells-pended (whole v) e =
         let n : ℕ = v .size in
         let l : length unread-pending ≡ r .pending - at = length-part re at (r .pending - at) (omega arith) in
@@ -193,8 +199,8 @@ module _ (r : Reader) (seg re : List ℕ) where
           small = subst (λ (k : ℕ). k ≤ maxReassembly) (sym (length-take-le n unread-pending (omega arith)) ∙ ap length bytes) (omega arith);
           agrees = tt;
           same =
-              λ a taken stream. first-whole taken _ unread-pending v e
-              ∙ ap₂ (λ (b u : List ℕ). says (envelopeOf b v) (envelopesIn 0 u taken (λ unread. meaningFrom z taken unread [] stream))) bytes on;
+              λ a taken stream. first-whole taken reassemblyBuffer _ _ unread-pending v e
+              ∙ ap₂ (λ (b u : List ℕ). says (dated taken (envelopeOf reassemblyBuffer (place at n) b v)) (envelopesIn taken reassemblyBuffer (at + n) 0 u (λ unread. meaningFrom z taken unread [] stream))) bytes on;
         }
 
     pub tells-pending : Tells r (inReassembly at) seg re (readPending r re at .says) (readPending r re at .reassembly)
@@ -278,9 +284,10 @@ module _ (r : Reader) (seg re : List ℕ) (n len : ℕ) (self : Bool) (q : r .ph
         ≡ cond t (restAt (lentOf r) (r .pending) (inSegment len 0) seg re taken stream) (refusedAfter 6 taken)
     by-pending own e o a taken stream t k =
         judged-so (e ∙ ap (λ (b : Bool). whole (segment b payload)) o) a taken stream
-        ∙ ap₂ (λ (b : Bool) (p : List ℕ). cond b (envelopesIn 0 p taken (λ unread. dropping unread (goes-on taken stream (take (r .pending) re) []))) (refusedAfter 6 taken))
-        (ap (λ (i : ℕ). eqb i 0) pending-length ∙ k)
-        (ap₂ (part seg) (sym (add-zero (headerLength (r .form)))) (let i : len ≡ len - 0 = omega arith in i))
+        ∙ ap₂ (λ (b : Bool) (n : ℕ). cond b (envelopesIn taken segmentBuffer n 0 (part seg n len) (λ unread. dropping taken unread (goes-on taken stream (take (r .pending) re) []))) (refusedAfter 6 taken))
+        (ap (λ (i : ℕ). eqb i 0) pending-length ∙ k) (sym (add-zero (headerLength (r .form))))
+        ∙ ap (λ (n : ℕ). cond t (envelopesIn taken segmentBuffer (headerLength (r .form) + 0) 0 (part seg (headerLength (r .form) + 0) n) (λ unread. dropping taken unread (goes-on taken stream (take (r .pending) re) []))) (refusedAfter 6 taken))
+        (let i : len ≡ len - 0 = omega arith in i)
 
     tells-alone : (own : Bool) → payloadAt (r .form) s (header len 0 self) ≡ whole (segment own payload) → own ≡ true → (t : Bool) → eqb (r .pending) 0 ≡ t
         → Tells r (inRest n len self) seg re (cond t (readSegment r seg len 0) (refusing 6 r)) re
@@ -293,10 +300,10 @@ module _ (r : Reader) (seg re : List ℕ) (n len : ℕ) (self : Bool) (q : r .ph
     module _ (own : Bool) (e : payloadAt (r .form) s (header len 0 self) ≡ whole (segment own payload)) (o : own ≡ false) where
       joined-by : Agrees (r .form) (inRest n len self) seg → (taken : ℕ) (stream : List ℕ) (t : Bool) → leb (r .pending + length payload) (length re) ≡ t
           → restAt (lentOf r) (r .pending) (inRest n len self) seg re taken stream
-          ≡ cond t (envelopesIn 0 (take (r .pending) re ++ payload) taken (λ unread. goes-on taken stream unread [])) (refusedAfter 7 taken)
+          ≡ cond t (envelopesIn taken reassemblyBuffer 0 0 (take (r .pending) re ++ payload) (λ unread. goes-on taken stream unread [])) (refusedAfter 7 taken)
       joined-by a taken stream t k =
           judged-so (e ∙ ap (λ (b : Bool). whole (segment b payload)) o) a taken stream
-          ∙ ap (λ (b : Bool). cond b (envelopesIn 0 (take (r .pending) re ++ payload) taken (λ unread. goes-on taken stream unread [])) (refusedAfter 7 taken))
+          ∙ ap (λ (b : Bool). cond b (envelopesIn taken reassemblyBuffer 0 0 (take (r .pending) re ++ payload) (λ unread. goes-on taken stream unread [])) (refusedAfter 7 taken))
           (ap₂ (λ (i c : ℕ). leb (i + length payload) c) pending-length (sym most) ∙ k)
 
       abbrev grown-reader : Reader
@@ -312,7 +319,7 @@ module _ (r : Reader) (seg re : List ℕ) (n len : ℕ) (self : Bool) (q : r .ph
           sym (take-put re payload (r .pending) (r .pending + length payload) within refl) ∙ ap (λ (i : ℕ). take i re₁) (let i : r .pending + length payload ≡ r .pending + length payload - 0 = omega arith in i)
           in
           before r grown-reader (inRest n len self) (inReassembly 0) seg re re₁ refl (omega (arith, payload-length)) (λ a. tt)
-          (λ a taken stream. joined-by a taken stream true k ∙ ap (λ (u : List ℕ). envelopesIn 0 u taken (λ unread. goes-on taken stream unread [])) front)
+          (λ a taken stream. joined-by a taken stream true k ∙ ap (λ (u : List ℕ). envelopesIn taken reassemblyBuffer 0 0 u (λ unread. goes-on taken stream unread [])) front)
           (readPending grown-reader re₁ 0 .says) (readPending grown-reader re₁ 0 .reassembly) (tells-pending grown-reader seg re₁ 0 (omega arith) (omega arith) (omega arith))
       tells-joined false k = record { lends = refl; stays = refl; same = λ a taken stream. joined-by a taken stream false k }
 

@@ -16,7 +16,7 @@ use Rattle.segment.specs.Header.{Form, Header, headerLength}
 use Rattle.segment.specs.Segment.{Segment, segmentLength, headerAt, payloadAt}
 use Rattle.segment.proofs.Cases.{fieldsAt, Headers, head-cut, head-differs, head-compressed, head-good, header-case, Payloads, payload-cut, payload-differs, payload-good, payload-is, payload-case}
 use Rattle.segment.proofs.HeaderLaid.{head-least}
-use Rattle.stream.specs.Meaning.{Lent, Meaning, holding, behindHeader, segmentIn, judged, meaningFrom}
+use Rattle.stream.specs.Meaning.{Lent, Meaning, behindHeader, segmentIn, judged, meaningFrom}
 use Rattle.stream.specs.Segments.{lastOf, judgedAt, byFirst, segmentwise}
 use Rattle.stream.proofs.Heads.{header-behind, payload-behind, in-header, by-header, roomy-header}
 

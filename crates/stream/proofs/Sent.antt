@@ -1,21 +1,21 @@
 -- What the writers of this library wrote, packed or in pieces, is legal, and comes back as the fields given. Assumes nothing.
-use Prim.Native.Nat.{ℕ, _+_, _%_, _≤_, _<_}
+use Prim.Native.Nat.{ℕ, _+_, _-_, _≤_}
 use mathlib.Core.Path.{_≡_, refl, sym, ap, ap₂, _∙_, subst}
-use mathlib.Core.Bool.{Bool, true, false}
+use mathlib.Core.Bool.{Bool, true, false, cond}
 use mathlib.Core.List.{List, [], _∷_, _++_, append-assoc, append-nil}
-use native.Mathlib.Nat.{zero-add, add-zero, le-refl}
+use native.Mathlib.Nat.{zero-add}
 use native.Mathlib.Omega.{arith}
+use lib.Dec.{leb}
 use lib.ListN.{length, take, drop, length-append, take-append-drop}
 use lib.Seq.{length-take-le, take-length}
-use Rattle.basis.specs.Front.{Front, whole, ifWhole}
-use Rattle.types.specs.Write.{Wrote, joined}
-use Rattle.types.proofs.BigEndian.{length-part}
+use Rattle.basis.specs.Front.{Front, incomplete, whole, ifWhole}
+use Rattle.basis.specs.Machine.{Dated}
+use Rattle.types.specs.Write.{joined}
 use Rattle.types.specs.ThereAndBack.{Holds, Stands}
 use Rattle.types.proofs.Holds.{accepted}
-use Rattle.segment.specs.Header.{Form, Header, headerLength, fieldsOf}
-use Rattle.segment.specs.Segment.{Segment, segment, segmentLength, maxPayload, headerAt, payloadAt, segmentAt, segmentBytes}
-use Rattle.segment.proofs.ReadWritten.{header-found}
-use Rattle.frame.specs.Envelope.{Envelope, envelope, idIn, bodyIn, warningsIn}
+use Rattle.segment.specs.Header.{Form, Header, headerLength}
+use Rattle.segment.specs.Segment.{segment, segmentLength, payloadAt, segmentAt}
+use Rattle.frame.specs.Envelope.{Envelope, envelope}
 use Rattle.frame.specs.Write.{envelopeBytes, envelopeCheck}
 use Rattle.frame.specs.ThereAndBack.{ReadBack}
 use Rattle.frame.proofs.WrittenRead.{written-back}
@@ -25,11 +25,13 @@ use Rattle.frame_encoder.proofs.Checked.{AddFine, add-fine, FinishFine, finish-
 use Rattle.frame_encoder.proofs.Laid.{segment-length}
 use Rattle.frame_encoder.specs.Runs.{Sent}
 use Rattle.frame_encoder.proofs.Runs.{passed, packed-segment, piece-segment}
-use Rattle.stream.specs.Meaning.{Lent, Said, envelopeOf, leftoverOf}
-use Rattle.stream.specs.Legal.{Envelopes, no-envelope, one-envelope, WholeSegment, Run, no-segment, one-segment, Legal, legal-end, legal-alone, legal-run, RunFits, Fits}
-use Rattle.stream.specs.Sent.{Given, Written, WrittenAll, none-written, one-written, InPieces, all-out, one-out, Sends, nothing-sent, sends-packed, sends-pieces, PiecesFit, Back, AllBack}
+use Rattle.frame_decoder.specs.Reader.{Buffer, segmentBuffer, reassemblyBuffer}
+use Rattle.stream.specs.Meaning.{Lent, Said}
+use Rattle.stream.specs.Legal.{Message, message, Envelopes, no-envelope, one-envelope, answered, WholeSegment, Run, no-segment, one-segment, complete, others, unread, runAnswered, Legal, legal-end, legal-alone, legal-run, RunFits, Fits}
+use Rattle.stream.specs.Sent.{Given, Written, WrittenAll, none-written, one-written, InPieces, all-out, one-out, Sends, nothing-sent, sends-packed, sends-pieces, PiecesFit, SendsFit, Back, AllBack}
+use Rattle.stream.proofs.Envelopes.{nothing-there}
 use Rattle.stream.proofs.Heads.{header-behind, payload-behind}
-use Rattle.stream.proofs.Legal.{Found, found}
+use Rattle.stream.proofs.Legal.{envelopes-end, Cut, cut, Found, found}
 
 -- ---- envelopes
 
@@ -55,36 +57,96 @@ read-written g bytes w =
       back = record { bytes-are = is; header = r .header; id = r .id; warnings = r .warnings; body = r .body };
     }
 
--- ---- what is said of envelopes that were given
+-- ---- envelopes that were given
+
+abbrev Backs : List Message → List Given → Type 0
+Backs [] [] = Unit {0}
+Backs [] (g ∷ gs) = ⊥
+Backs (e ∷ es) [] = ⊥
+Backs (e ∷ es) (g ∷ gs) = Back (e .bytes) (e .reading) g × Backs es gs
 
 record Told (s : List ℕ) (gs : List Given) : Type 0 where
-  said : List Said
-  envelopes : Envelopes s said
-  back : AllBack said gs
+  es : List Message
+  envelopes : Envelopes s es
+  back : Backs es gs
 
-all-told : (gs : List Given) (es : List (List ℕ)) → WrittenAll gs es → Told (joined es) gs
+all-told : (gs : List Given) (bs : List (List ℕ)) → WrittenAll gs bs → Told (joined bs) gs
 unfolding joined
-all-told [] [] none-written = record { said = []; envelopes = no-envelope; back = tt }
-all-told (g ∷ gs) (e ∷ es) (one-written w ws) =
-    let r : Read g e = read-written g e w in
-    let i : Told (joined es) gs = all-told gs es ws in
-    record { said = envelopeOf e (r .v) ∷ i .said; envelopes = one-envelope (r .reads) (r .size) (i .envelopes); back = (r .back, i .back) }
+all-told [] [] none-written = record { es = []; envelopes = no-envelope; back = tt }
+all-told (g ∷ gs) (b ∷ bs) (one-written w ws) =
+    let r : Read g b = read-written g b w in
+    let i : Told (joined bs) gs = all-told gs bs ws in
+    record { es = message b (r .v) ∷ i .es; envelopes = one-envelope (r .reads) (r .size) (i .envelopes); back = (r .back, i .back) }
 
-one-told : (g : Given) (e : List ℕ) → Written g e → Told e (g ∷ [])
-one-told g e w =
-    let r : Read g e = read-written g e w in
-    record {
-      said = envelopeOf e (r .v) ∷ [];
-      envelopes = subst (λ (s : List ℕ). Envelopes s (envelopeOf e (r .v) ∷ [])) (append-nil e) (one-envelope (r .reads) (r .size) no-envelope);
-      back = (r .back, tt);
-    }
+one-told : (g : Given) (b : List ℕ) → Written g b → Told b (g ∷ [])
+unfolding joined
+one-told g b w = subst (λ (s : List ℕ). Told s (g ∷ [])) (append-nil b) (all-told (g ∷ []) (b ∷ []) (one-written w none-written))
 
-both-back : (first later : List Said) (gs hs : List Given) → AllBack first gs → AllBack later hs → AllBack (first ++ later) (gs ++ hs)
+-- as they are answered
+answered-back : (due : ℕ) (buffer : Buffer) (at : ℕ) (es : List Message) (gs : List Given) → Backs es gs → AllBack (answered due buffer at es) gs
+unfolding answered
+answered-back due buffer at [] [] b = tt
+answered-back due buffer at [] (g ∷ gs) b = absurd b
+answered-back due buffer at (e ∷ es) [] b = absurd b
+answered-back due buffer at (e ∷ es) (g ∷ gs) b = (b .0, answered-back due buffer (at + length (e .bytes)) es gs (b .1))
+
+both-back : (first later : List (Dated Said)) (gs hs : List Given) → AllBack first gs → AllBack later hs → AllBack (first ++ later) (gs ++ hs)
 both-back [] later [] hs a b = b
 both-back [] later (g ∷ gs) hs a b = absurd a
 both-back (x ∷ first) later [] hs a b = absurd a
-both-back (envelopeOf bytes v ∷ first) later (g ∷ gs) hs a b = (a .0, both-back first later gs hs (a .1) b)
-both-back (leftoverOf n ∷ first) later (g ∷ gs) hs a b = absurd a
+both-back (x ∷ first) later (g ∷ gs) hs a b = (a .0, both-back first later gs hs (a .1) b)
+
+-- those of them that are whole within n bytes, and the others
+record Split (n : ℕ) (es : List Message) (gs : List Given) : Type 0 where
+  first : List Given
+  later : List Given
+  both : gs ≡ first ++ later
+  whole-back : Backs (complete n es) first
+  others-back : Backs (others n es) later
+
+split : (n : ℕ) (es : List Message) (gs : List Given) → Backs es gs → Split n es gs
+unfolding complete others
+split n [] gs b = record { first = []; later = gs; both = refl; whole-back = tt; others-back = b }
+split n (e ∷ es) [] b = absurd b
+split n (e ∷ es) (g ∷ gs) b = by (leb (length (e .bytes)) n) refl (split (n - length (e .bytes)) es gs (b .1))
+  where
+    by : (t : Bool) → leb (length (e .bytes)) n ≡ t → Split (n - length (e .bytes)) es gs → Split n (e ∷ es) (g ∷ gs)
+    by true q i =
+        record {
+          first = g ∷ i .first;
+          later = i .later;
+          both = ap (λ (k : List Given). g ∷ k) (i .both);
+          whole-back = subst (λ (t : Bool). Backs (cond t (e ∷ complete (n - length (e .bytes)) es) []) (g ∷ i .first)) (sym q) (b .0, i .whole-back);
+          others-back = subst (λ (t : Bool). Backs (cond t (others (n - length (e .bytes)) es) (e ∷ es)) (i .later)) (sym q) (i .others-back);
+        }
+    by false q i =
+        record {
+          first = [];
+          later = g ∷ gs;
+          both = refl;
+          whole-back = subst (λ (t : Bool). Backs (cond t (e ∷ complete (n - length (e .bytes)) es) []) []) (sym q) tt;
+          others-back = subst (λ (t : Bool). Backs (cond t (others (n - length (e .bytes)) es) (e ∷ es)) (g ∷ gs)) (sym q) b;
+        }
+
+nothing-given : (es : List Message) (gs : List Given) → es ≡ [] → Backs es gs → AllBack [] gs
+nothing-given es [] e b = tt
+nothing-given es (g ∷ gs) e b = subst (λ (x : List Message). Backs x (g ∷ gs)) e b
+
+run-back : {f : Form} {s p : List ℕ} (run : Run f s p) (taken : ℕ) (u : List ℕ) (es : List Message) (gs : List Given) → Envelopes (u ++ p) es → envelope u ≡ incomplete → Backs es gs
+    → AllBack (runAnswered run taken (length u) es) gs
+run-back no-segment taken u es gs w h b = nothing-given es gs (envelopes-end (subst (λ (k : List ℕ). Envelopes k es) (append-nil u) w) h .1) b
+run-back (one-segment {bytes = s} {payload = p} {payloads = q} g run) taken u es gs w h b =
+    let c : Cut (u ++ p) q es = cut w (u ++ p) q (sym (append-assoc u p q)) in
+    let n : ℕ = length u + length p in
+    let j : length (u ++ p) ≡ n = length-append u p in
+    let i : Split n es gs = split n es gs b in
+    let on : AllBack (runAnswered run (taken + length s) (length (c .left)) (others n es)) (i .later) =
+    run-back run (taken + length s) (c .left) (others n es) (i .later) (subst (λ (k : ℕ). Envelopes (c .left ++ q) (others k es)) j (c .on)) (c .short) (i .others-back)
+    in
+    subst (AllBack (runAnswered (one-segment g run) taken (length u) es)) (sym (i .both))
+    (both-back (answered (taken + length s) reassemblyBuffer 0 (complete n es)) (runAnswered run (taken + length s) (unread n es) (others n es)) (i .first) (i .later)
+    (answered-back (taken + length s) reassemblyBuffer 0 (complete n es) (i .first) (i .whole-back))
+    (subst (λ (k : ℕ). AllBack (runAnswered run (taken + length s) k (others n es)) (i .later)) (c .long ∙ ap (λ (k : ℕ). unread k es) j) on))
 
 -- ---- segments
 
@@ -97,18 +159,6 @@ module _ (f : Form) (s q : List ℕ) (self : Bool) (p : List ℕ) (e : segmentAt
       let n : i .head .payload ≡ length p = i .long in
       ap (λ (x : Front Header). ifWhole x (payloadAt f s)) (sym (header-behind f s q (omega arith)) ∙ i .header) ∙ sym (payload-behind f s q (i .head) (omega arith)) ∙ i .payload
 
--- no payload is longer than the longest
-small-payload : (f : Form) (s : List ℕ) (self : Bool) (p : List ℕ) → WholeSegment f s self p → length p ≤ maxPayload
-unfolding fieldsOf
-small-payload f s self p g =
-    let i : Found f s self p = found f s self p (g .reads) in
-    let h = header-found f s (i .header) in
-    let most : i .head .payload ≤ maxPayload = subst (λ (x : Header). x .payload ≤ maxPayload) (h .is) (remainder _) in
-    omega (arith, i .long)
-  where
-    remainder : (x : ℕ) → x % 131072 ≤ 131071
-    remainder x = omega arith
-
 -- what a writer put at an output's front, and as much of it as it says
 went-out : (f : Form) (self : Bool) (p out end : List ℕ) (size : ℕ) → Sent f self p out end size → WholeSegment f (take size end) self p
 went-out f self p out end size s =
@@ -120,13 +170,23 @@ went-out f self p out end size s =
       ends = l ∙ n;
     }
 
+-- a segment that a writer put there is as long as it says
+sent-length : (f : Form) (self : Bool) (p out end : List ℕ) (size : ℕ) → Sent f self p out end size → segmentLength f (length p) ≡ size
+sent-length f self p out end size s = sym (s .size-is ∙ segment-length f self p)
+
 -- an envelope in pieces is a run that joins to it
-pieces-run : (f : Form) (e s : List ℕ) → InPieces f e s → Run f s e
-pieces-run f e s all-out = no-segment
-pieces-run f e s (one-out out {end = end} {others = others} {size = size} {taken = taken} some p on) =
-    let i = piece-segment f out e p in
-    subst (λ (x : List ℕ). Run f (take size end ++ others) x) (take-append-drop taken e)
-    (one-segment (went-out f false (take taken e) out end size (i .0)) (pieces-run f (drop taken e) others on))
+record Ran (z : Lent) (e s : List ℕ) (fit : Type 0) : Type 0 where
+  run : Run (z .form) s e
+  fits : fit → RunFits z run
+
+pieces-run : (z : Lent) (e s : List ℕ) (ps : InPieces (z .form) e s) → Ran z e s (PiecesFit z ps)
+pieces-run z e s all-out = record { run = no-segment; fits = λ k. tt }
+pieces-run z e s (one-out out {end = end} {others = later} {size = size} {taken = taken} some p on) =
+    let i = piece-segment (z .form) out e p in
+    let j = pieces-run z (drop taken e) later on in
+    let l : segmentLength (z .form) (length (take taken e)) ≡ size = sent-length (z .form) false (take taken e) out end size (i .0) in
+    subst (λ (x : List ℕ). Ran z x (take size end ++ later) ((size ≤ z .segment) × PiecesFit z on)) (take-append-drop taken e)
+    (record { run = one-segment (went-out (z .form) false (take taken e) out end size (i .0)) (j .run); fits = λ k. (omega (arith, k .0), j .fits (k .1)) })
 
 -- an output into which something was written has room for a header
 header-room : (f : Form) (out : List ℕ) (es : List (List ℕ)) {w v : Writer} {mid end : List ℕ} {size taken : ℕ} → Added (fresh f) out es w mid → finish w mid ≡ done v (wrote size taken) end
@@ -141,38 +201,36 @@ header-room f out (x ∷ es) (one-added q more) e =
 
 -- ---- the stream
 
-module _ (z : Lent) (large : segmentLength (z .form) maxPayload ≤ z .segment) where
-  run-fits : {s p : List ℕ} (g : Run (z .form) s p) → RunFits z g
-  run-fits no-segment = tt
-  run-fits (one-segment {bytes = s} {payload = p} g on) = (omega (arith, small-payload (z .form) s false p g), run-fits on)
-
-  -- Legal; each envelope comes back as it was given; and a segment buffer for the longest payload and a reassembly buffer for each envelope in pieces suffice.
-  pub record Comes (s : List ℕ) (gs : List Given) (fit : Type 0) : Type 0 where
-    pub said : List Said
-    pub legal : Legal (z .form) s said
-    pub back : AllBack said gs
+module _ (z : Lent) where
+  -- Legal; each envelope comes back as it was given; and buffers in which each segment, and each envelope in pieces, has room suffice.
+  pub record Comes (taken : ℕ) (s : List ℕ) (gs : List Given) (fit : Type 0) : Type 0 where
+    pub answers : List (Dated Said)
+    pub legal : Legal (z .form) taken s answers
+    pub back : AllBack answers gs
     pub fits : fit → Fits z legal
 
-  pub sent-comes : {s : List ℕ} {gs : List Given} (sends : Sends (z .form) s gs) → Comes s gs (PiecesFit z sends)
-  sent-comes nothing-sent = record { said = []; legal = legal-end; back = tt; fits = λ k. tt }
-  sent-comes (sends-packed {gs = gs} {later = later} {envelopes = es} {out = out} {end = end} {size = size} ws added finished on) =
+  pub sent-comes : {s : List ℕ} {gs : List Given} (taken : ℕ) (sends : Sends (z .form) s gs) → Comes taken s gs (SendsFit z sends)
+  sent-comes taken nothing-sent = record { answers = []; legal = legal-end; back = tt; fits = λ k. tt }
+  sent-comes taken (sends-packed {gs = gs} {later = later} {envelopes = es} {out = out} {end = end} {size = size} ws added finished on) =
       let s : Sent (z .form) true (joined es) out end size = packed-segment (z .form) out es (header-room (z .form) out es added finished) added finished .0 in
       let g : WholeSegment (z .form) (take size end) true (joined es) = went-out (z .form) true (joined es) out end size s in
       let t : Told (joined es) gs = all-told gs es ws in
-      let i = sent-comes on in
+      let n : ℕ = taken + length (take size end) in
+      let i = sent-comes n on in
+      let first : List (Dated Said) = answered n segmentBuffer (headerLength (z .form)) (t .es) in
       record {
-        said = t .said ++ i .said;
+        answers = first ++ i .answers;
         legal = legal-alone g (t .envelopes) (i .legal);
-        back = both-back (t .said) (i .said) gs later (t .back) (i .back);
-        fits = λ k. (omega (arith, small-payload (z .form) (take size end) true (joined es) g), i .fits k);
+        back = both-back first (i .answers) gs later (answered-back n segmentBuffer (headerLength (z .form)) (t .es) gs (t .back)) (i .back);
+        fits = λ k. (omega (arith, k .0, sent-length (z .form) true (joined es) out end size s), i .fits (k .1));
       }
-  sent-comes (sends-pieces {g = g} {later = later} {envelope = e} {bytes = s} w ps on) =
-      let r : Run (z .form) s e = pieces-run (z .form) e s ps in
+  sent-comes taken (sends-pieces {g = g} {later = later} {envelope = e} {bytes = s} w ps on) =
+      let r : Ran z e s (PiecesFit z ps) = pieces-run z e s ps in
       let t : Told e (g ∷ []) = one-told g e w in
-      let i = sent-comes on in
+      let i = sent-comes (taken + length s) on in
       record {
-        said = t .said ++ i .said;
-        legal = legal-run r (t .envelopes) (i .legal);
-        back = both-back (t .said) (i .said) (g ∷ []) later (t .back) (i .back);
-        fits = λ k. (run-fits r, k .0, i .fits (k .1));
+        answers = runAnswered (r .run) taken 0 (t .es) ++ i .answers;
+        legal = legal-run (r .run) (t .envelopes) (i .legal);
+        back = both-back (runAnswered (r .run) taken 0 (t .es)) (i .answers) (g ∷ []) later (run-back (r .run) taken [] (t .es) (g ∷ []) (t .envelopes) nothing-there (t .back)) (i .back);
+        fits = λ k. (r .fits (k .0), k .1, i .fits (k .2));
       }

@@ -1,37 +1,39 @@
 -- Each reader of `specs/Shut.antt` is shut out: P5 has to come out, then P6, and what is taken and left over are lengths of what was lent. Assumes nothing.
 use Prim.Native.Nat.{ℕ, _+_, _≤_, _<_}
-use mathlib.Core.Path.{_≡_, refl, sym, ap, ap₂, _∙_, subst}
+use mathlib.Core.Path.{_≡_, refl, sym, ap, ap₂, _∙_, subst, fun-ext}
 use mathlib.Core.Bool.{Bool, true, false, cond}
 use mathlib.Core.List.{List, [], _∷_, _++_, append-nil}
 use native.Mathlib.Nat.{zero-add}
 use native.Mathlib.Omega.{arith}
 use borrow.Author.Tests.{ne-eqb}
 use lib.Dec.{eqb}
-use lib.ListN.{length, drop, replicate, length-replicate}
+use lib.ListN.{length, drop, replicate}
 use lib.Seq.{take-length}
 use Rattle.basis.specs.Front.{incomplete, whole}
+use Rattle.basis.specs.Lists.{joined}
+use Rattle.basis.specs.Machine.{Reply, handsOn, asksMore, refusesWith, Step, step, Dated, dated, says, refusedAfter, holding, saying, usedUp, Uses, by-more, after-one, Hears, all-given, one-used, one-refused}
+use Rattle.basis.proofs.Machine.{Kept, Does}
 use Rattle.types.specs.Number.{be, beFrom}
-use Rattle.types.specs.Read.{Place}
-use Rattle.types.specs.Write.{joined}
-use Rattle.types.specs.ThereAndBack.{Holds}
-use Rattle.segment.specs.Header.{Form, short}
+use Rattle.types.specs.Read.{Place, place}
+use Rattle.segment.specs.Header.{Form, short, headerLength}
 use Rattle.segment.specs.Segment.{segmentLength, segmentBytes, maxPayload}
 use Rattle.segment.proofs.WrittenRead.{segment-back}
 use Rattle.frame.specs.Header.{headerOf, knownVersion, knownOpcode, hasId, hasWarnings}
 use Rattle.frame.specs.Envelope.{declared, sized, sizeOf, Envelope, afterId, warningsAt, within, inside, envelope}
 use Rattle.frame_encoder.proofs.Laid.{segment-length}
-use Rattle.frame_decoder.specs.Reader.{Reader, fresh, Buffer, bytesAt, Answer, envelopeAt, leftover, more, refused, admissible}
+use Rattle.frame_decoder.specs.Reader.{Reader, fresh, Buffer, segmentBuffer, Answer, envelopeAt, leftover, more, refused, admissible}
 use Rattle.frame_decoder.specs.Call.{Outcome, outcome, call}
-use Rattle.stream.specs.Meaning.{Lent, lent, Said, envelopeOf, leftoverOf, Meaning, says, refusedAfter, holding, envelopesIn, dropping, meaningFrom, meaning}
-use Rattle.stream.specs.Caller.{inRange, holds, Hears, all-given, hears-more, hears-envelope, hears-leftover, hears-refusal}
-use Rattle.stream.specs.Legal.{Envelopes, no-envelope, one-envelope, WholeSegment, Legal, legal-end, legal-alone, saying, exactly}
-use Rattle.stream.specs.Private.Inside.{Ready}
-use Rattle.stream.specs.Shut.{Reads, Keeps, RefusesEverything, NamesOneEnvelope, AsksForever, next, OnlyNods, P5, readingOfP5, P6, readingOfP6}
-use Rattle.stream.proofs.Calls.{admissible-ready, Called, Told, call-refused, called}
-use Rattle.stream.proofs.Legal.{legal-means, fits-suffices, segment-first, said-then}
-use Rattle.stream.proofs.Pieces.{pieces-are-heard}
+use Rattle.stream.specs.Meaning.{Lent, lent, Said, envelopeOf, leftoverOf, Meaning, dropping, meaningFrom}
+use Rattle.stream.specs.Caller.{inRange, State, state, replyOf, stepOf, reads, holds, start, HearsOf, heardOf, Asked}
+use Rattle.stream.specs.Collect.{answersOf}
+use Rattle.stream.specs.Legal.{Message, message, Envelopes, no-envelope, one-envelope, answered, WholeSegment, Legal, legal-end, legal-alone, exactly, Suffices}
+use Rattle.stream.specs.Shut.{Reads, Keeps, machineOf, datesOf, RefusesEverything, NamesOneEnvelope, AsksForever, next, OnlyNods, P5, readingOfP5, P6, readingOfP6}
+use Rattle.stream.proofs.Calls.{admissible-ready, call-refused}
+use Rattle.stream.proofs.Legal.{fits-suffices, segment-first, said-then}
+use Rattle.stream.proofs.Pieces.{reader, lawful, pieces-do-not-matter, pieces-are-heard}
+use Rattle.stream.proofs.Demand3.{demand-3}
 
--- ---- answers and what is said are told apart
+-- ---- answers are told apart
 
 answerTag : Answer → ℕ
 answerTag more = 0
@@ -39,61 +41,53 @@ answerTag (refused number) = 1
 answerTag (leftover n) = 2
 answerTag (envelopeAt buffer at e) = 3
 
-meaningTag : Meaning → ℕ
-meaningTag (holding s p) = 0
-meaningTag (refusedAfter number taken) = 1
-meaningTag (says (leftoverOf n) m) = 2
-meaningTag (says (envelopeOf bytes e) m) = 3
-
-bytesSaid : Meaning → List ℕ
-bytesSaid (holding s p) = []
-bytesSaid (refusedAfter number taken) = []
-bytesSaid (says (leftoverOf n) m) = []
-bytesSaid (says (envelopeOf bytes e) m) = bytes
-
-readingSaid : Envelope → Meaning → Envelope
-readingSaid d (holding s p) = d
-readingSaid d (refusedAfter number taken) = d
-readingSaid d (says (leftoverOf n) m) = d
-readingSaid d (says (envelopeOf bytes e) m) = e
-
-saidThen : Meaning → Meaning
-saidThen (holding s p) = holding s p
-saidThen (refusedAfter number taken) = refusedAfter number taken
-saidThen (says x m) = m
+-- what was heard of an answer says the answer
+named : {buffer : Buffer} {at : Place} {bytes : List ℕ} {v : Envelope} (answer : Answer) (seg re : List ℕ) → replyOf answer seg re ≡ handsOn (envelopeOf buffer at bytes v) → answer ≡ envelopeAt buffer at v
+named (envelopeAt buffer at e) seg re q = cc
+named (leftover n) seg re q = let z : _≡_ {A = ℕ} 0 1 = cc in let f : ⊥ = omega arith in absurd f
+named more seg re q = let z : _≡_ {A = ℕ} 0 1 = cc in let f : ⊥ = omega arith in absurd f
+named (refused number) seg re q = let z : _≡_ {A = ℕ} 0 1 = cc in let f : ⊥ = omega arith in absurd f
 
 -- ---- what is heard of one piece, call by call
 
--- an envelope is heard: the call answered it
-pub record Names (r : Reader) (seg re piece : List ℕ) (taken : ℕ) (bytes : List ℕ) (v : Envelope) (m : Meaning) : Type 0 where
-  pub buffer : Buffer
-  pub at : Place
-  pub n : ℕ
-  pub r′ : Reader
-  pub seg′ : List ℕ
-  pub re′ : List ℕ
-  pub answers : call r seg re piece ≡ outcome (envelopeAt buffer at v) n r′ seg′ re′
-  pub shows : bytesAt buffer seg′ re′ at ≡ bytes
-  pub hears : Hears r′ seg′ re′ (taken + n) (drop n piece ∷ []) m
+answers-said : (xs : List (Dated Said)) (m : Meaning) → answersOf (saying xs m) ≡ xs ++ answersOf m
+answers-said [] m = refl
+answers-said (x ∷ xs) m = ap (λ (l : List (Dated Said)). x ∷ l) (answers-said xs m)
 
-names : {r : Reader} {seg re piece : List ℕ} {taken : ℕ} {m : Meaning} → Hears r seg re taken (piece ∷ []) m → (bytes : List ℕ) (v : Envelope) (m′ : Meaning) → m ≡ says (envelopeOf bytes v) m′
-    → Names r seg re piece taken bytes v m′
-unfolding meaningTag bytesSaid readingSaid saidThen
-names (hears-more e all-given) bytes v m′ q = absurd (let z : _≡_ {A = ℕ} 0 3 = ap meaningTag q in omega arith)
-names {r} {seg} {re} {piece} {taken} (hears-envelope {r′ = r′} {segment′ = seg′} {reassembly′ = re′} {n = n} {buffer = buffer} {at = at} {e = d} e on) bytes v m′ q =
-    record {
-      buffer = buffer;
-      at = at;
-      n = n;
-      r′ = r′;
-      seg′ = seg′;
-      re′ = re′;
-      answers = e ∙ ap (λ (x : Envelope). outcome (envelopeAt buffer at x) n r′ seg′ re′) (ap (readingSaid d) q);
-      shows = ap bytesSaid q;
-      hears = subst (λ (x : Meaning). Hears r′ seg′ re′ (taken + n) (drop n piece ∷ []) x) (ap saidThen q) on;
-    }
-names (hears-leftover e on) bytes v m′ q = absurd (let z : _≡_ {A = ℕ} 2 3 = ap meaningTag q in omega arith)
-names (hears-refusal e) bytes v m′ q = absurd (let z : _≡_ {A = ℕ} 1 3 = ap meaningTag q in omega arith)
+stops : Meaning → ℕ
+stops (says x m) = stops m
+stops (refusedAfter number taken) = 1
+stops (holding h) = 0
+
+stops-said : (xs : List (Dated Said)) (m : Meaning) → stops (saying xs m) ≡ stops m
+unfolding stops
+stops-said [] m = refl
+stops-said (x ∷ xs) m = stops-said xs m
+
+record Used (s : State) (piece : List ℕ) (xs : List (Dated Said)) : Type 0 where
+  end : ℕ
+  last : State
+  uses : Uses reads s 0 piece xs usedUp end last
+
+used : {s : State} {piece : List ℕ} {m : Meaning} → Hears reads holds s 0 (piece ∷ []) m → (ys : List (Dated Said)) → m ≡ exactly ys → Used s piece ys
+unfolding stops
+used {s} {piece} (one-used {t = t} {n = n} {xs = xs} u all-given) ys q =
+    let same : xs ≡ ys = sym (append-nil xs) ∙ sym (answers-said xs (holding (holds t))) ∙ ap answersOf q ∙ answers-said ys _ ∙ append-nil ys in
+    record { end = n; last = t; uses = subst (λ (l : List (Dated Said)). Uses reads s 0 piece l usedUp n t) same u }
+used (one-refused {n = n} {xs = xs} {e = e} u) ys q =
+    absurd (let z : _≡_ {A = ℕ} 1 0 = sym (stops-said xs (refusedAfter e n)) ∙ ap stops q ∙ stops-said ys _ in omega arith)
+
+-- two answers are two calls
+record Two (s : State) (piece : List ℕ) (x y : Said) : Type 0 where
+  n : ℕ
+  t : State
+  first : reads s piece ≡ step (handsOn x) n t
+  m : ℕ
+  u : State
+  second : reads t (drop n piece) ≡ step (handsOn y) m u
+
+two : {s t : State} {piece : List ℕ} {x y : Dated Said} {end : ℕ} → Uses reads s 0 piece (x ∷ y ∷ []) usedUp end t → Two s piece (x .what) (y .what)
+two (after-one {t = t} {n = n} e (after-one {t = u} {n = m} f (by-more g))) = record { n = n; t = t; first = e; m = m; u = u; second = f }
 
 -- ---- P5, then P6
 
@@ -106,7 +100,7 @@ P6-reads : envelope P6 ≡ whole readingOfP6
 unfolding envelope sizeOf sized declared headerOf knownVersion knownOpcode hasId hasWarnings afterId warningsAt within inside be beFrom
 P6-reads = refl
 
-both-envelopes : Envelopes (P5 ++ P6) (envelopeOf P5 readingOfP5 ∷ envelopeOf P6 readingOfP6 ∷ [])
+both-envelopes : Envelopes (P5 ++ P6) (message P5 readingOfP5 ∷ message P6 readingOfP6 ∷ [])
 both-envelopes = one-envelope {bytes = P5} {others = P6} P5-reads refl (one-envelope {bytes = P6} {others = []} P6-reads refl no-envelope)
 
 -- the segment of a payload is whole
@@ -119,31 +113,37 @@ module _ (f : Form) (seg re : List ℕ) (range : inRange (length seg) (length re
   abbrev line : List ℕ
   line = segmentBytes f true (P5 ++ P6)
 
-  line-legal : Legal f line (envelopeOf P5 readingOfP5 ∷ envelopeOf P6 readingOfP6 ∷ [])
-  line-legal =
-      subst (λ (l : List ℕ). Legal f l (envelopeOf P5 readingOfP5 ∷ envelopeOf P6 readingOfP6 ∷ [])) (append-nil line) (legal-alone (whole-segment f true (P5 ++ P6) (omega arith)) both-envelopes legal-end)
+  abbrev answers : List (Dated Said)
+  answers =
+      dated (0 + length line) (envelopeOf segmentBuffer (place (headerLength f) 9) P5 readingOfP5)
+      ∷ dated (0 + length line) (envelopeOf segmentBuffer (place (headerLength f + 9) 9) P6 readingOfP6)
+      ∷ []
 
-  line-means : meaning (lent f (length seg) (length re)) line ≡ exactly (envelopeOf P5 readingOfP5 ∷ envelopeOf P6 readingOfP6 ∷ [])
-  line-means =
+  line-used : Used (start f seg re) line answers
+  unfolding joined answered
+  line-used =
       let z = lent f (length seg) (length re) in
-      let g : Legal f (line ++ []) (envelopeOf P5 readingOfP5 ∷ envelopeOf P6 readingOfP6 ∷ []) = legal-alone (whole-segment f true (P5 ++ P6) (omega arith)) both-envelopes legal-end in
-      ap (meaning z) (sym (append-nil line)) ∙ legal-means z g 0 (fits-suffices z g (room, tt) 0)
+      let asked : Asked (inRange (length seg) (length re)) (line ∷ []) = subst (λ (b : Bool). Asked b (line ∷ [])) (sym range) tt in
+      let g : Legal f 0 (line ++ []) answers = legal-alone (whole-segment f true (P5 ++ P6) (omega arith)) both-envelopes legal-end in
+      let h = pieces-are-heard f seg re (line ∷ []) asked in
+      used h answers (demand-3 f seg re (line ∷ []) asked h .1 answers g (record { range = range; never = fits-suffices z g (room, tt) }))
 
-  line-heard : Hears (fresh f (length seg) (length re)) seg re 0 (line ∷ []) (exactly (envelopeOf P5 readingOfP5 ∷ envelopeOf P6 readingOfP6 ∷ []))
-  unfolding joined
-  line-heard =
-      subst (λ (m : Meaning). Hears (fresh f (length seg) (length re)) seg re 0 (line ∷ []) m)
-      (ap (meaning (lent f (length seg) (length re))) (append-nil line) ∙ line-means)
-      (pieces-are-heard f seg re range (line ∷ []))
+  calls : Two (start f seg re) line (envelopeOf segmentBuffer (place (headerLength f) 9) P5 readingOfP5) (envelopeOf segmentBuffer (place (headerLength f + 9) 9) P6 readingOfP6)
+  calls = two (line-used .uses)
+
+  abbrev first-outcome : Outcome
+  first-outcome = call (fresh f (length seg) (length re)) seg re line
 
   -- the first call names P5
-  pub first-call : Names (fresh f (length seg) (length re)) seg re line 0 P5 readingOfP5 (exactly (envelopeOf P6 readingOfP6 ∷ []))
-  first-call = names line-heard P5 readingOfP5 (exactly (envelopeOf P6 readingOfP6 ∷ [])) refl
+  pub first-call : first-outcome .answer ≡ envelopeAt segmentBuffer (place (headerLength f) 9) readingOfP5
+  first-call = named (first-outcome .answer) (first-outcome .segment) (first-outcome .reassembly) (ap (λ (o : Step State Said ℕ). o .reply) (calls .first))
 
   -- the second, with the rest of the piece and what the first left untouched, P6
-  pub second-call : (let i : Names (fresh f (length seg) (length re)) seg re line 0 P5 readingOfP5 (exactly (envelopeOf P6 readingOfP6 ∷ [])) = first-call in
-      Names (i .r′) (i .seg′) (i .re′) (drop (i .n) line) (0 + i .n) P6 readingOfP6 (exactly []))
-  second-call = names (first-call .hears) P6 readingOfP6 (exactly []) refl
+  pub second-call : call (first-outcome .reader) (first-outcome .segment) (first-outcome .reassembly) (drop (first-outcome .taken) line) .answer ≡ envelopeAt segmentBuffer (place (headerLength f + 9) 9) readingOfP6
+  second-call =
+      let o = call (first-outcome .reader) (first-outcome .segment) (first-outcome .reassembly) (drop (first-outcome .taken) line) in
+      named (o .answer) (o .segment) (o .reassembly)
+      (ap (λ (i : Step State Said ℕ). reads (i .next) (drop (i .taken) line) .reply) (calls .first) ∙ ap (λ (i : Step State Said ℕ). i .reply) (calls .second))
 
 -- ---- shut out
 
@@ -164,23 +164,17 @@ in-range : inRange 64 9 ≡ true
 unfolding inRange
 in-range = refl
 
-abbrev first₀ : Names r₀ seg₀ re₀ line₀ 0 P5 readingOfP5 (exactly (envelopeOf P6 readingOfP6 ∷ []))
-first₀ = first-call short seg₀ re₀ in-range (omega arith)
-
 module _ (R : Reads) (keeps : Keeps R) where
   -- its first answer there is P5, its next P6
-  first-answer : R r₀ seg₀ re₀ line₀ .answer ≡ envelopeAt (first₀ .buffer) (first₀ .at) readingOfP5
-  first-answer = ap (λ (o : Outcome). o .answer) (keeps r₀ seg₀ re₀ line₀ ∙ first₀ .answers)
+  first-answer : R r₀ seg₀ re₀ line₀ .answer ≡ envelopeAt segmentBuffer (place 6 9) readingOfP5
+  first-answer = ap (λ (o : Outcome). o .answer) (keeps r₀ seg₀ re₀ line₀) ∙ first-call short seg₀ re₀ in-range (omega arith)
 
-  second-answer : (buffer : Buffer) × (at : Place) × (next R r₀ seg₀ re₀ line₀ .answer ≡ envelopeAt buffer at readingOfP6)
+  second-answer : next R r₀ seg₀ re₀ line₀ .answer ≡ envelopeAt segmentBuffer (place 15 9) readingOfP6
   second-answer =
-      let i = first₀ in
-      let j = names (i .hears) P6 readingOfP6 (exactly []) refl in (
-        j .buffer,
-        j .at,
-        ap (λ (o : Outcome). R (o .reader) (o .segment) (o .reassembly) (drop (o .taken) line₀) .answer) (keeps r₀ seg₀ re₀ line₀ ∙ i .answers)
-            ∙ ap (λ (o : Outcome). o .answer) (keeps (i .r′) (i .seg′) (i .re′) (drop (i .n) line₀) ∙ j .answers),
-      )
+      let o = call r₀ seg₀ re₀ line₀ in
+      ap (λ (i : Outcome). R (i .reader) (i .segment) (i .reassembly) (drop (i .taken) line₀) .answer) (keeps r₀ seg₀ re₀ line₀)
+      ∙ ap (λ (i : Outcome). i .answer) (keeps (o .reader) (o .segment) (o .reassembly) (drop (o .taken) line₀))
+      ∙ second-call short seg₀ re₀ in-range (omega arith)
 
   pub not-refusing-everything : RefusesEverything R → ⊥
   unfolding answerTag
@@ -195,7 +189,7 @@ module _ (R : Reads) (keeps : Keeps R) where
       let o = R r₀ seg₀ re₀ line₀ in
       let j = w (o .reader) (o .segment) (o .reassembly) (drop (o .taken) line₀) in
       let p : e .header .opcode ≡ 5 = ap (opcodeOf 0) (sym (i .2) ∙ first-answer) in
-      let q : e .header .opcode ≡ 12 = ap (opcodeOf 0) (sym (j .2) ∙ second-answer .2) in
+      let q : e .header .opcode ≡ 12 = ap (opcodeOf 0) (sym (j .2) ∙ second-answer) in
       omega arith
     where
       opcodeOf : ℕ → Answer → ℕ
@@ -210,9 +204,17 @@ module _ (R : Reads) (keeps : Keeps R) where
 
   pub not-only-nodding : OnlyNods R → ⊥
   unfolding answerTag
-  not-only-nodding w = let z : _≡_ {A = ℕ} 0 3 = ap answerTag (sym (w r₀ seg₀ re₀ line₀) ∙ second-answer .2) in omega arith
+  not-only-nodding w = let z : _≡_ {A = ℕ} 0 3 = ap answerTag (sym (w r₀ seg₀ re₀ line₀) ∙ second-answer) in omega arith
 
   -- ---- numbers that are not invented
+
+  -- Whatever pieces a caller gives to a fresh one, over whatever buffers: the bytes that it says it took, added up to each answer and to a refusal, are the numbers that the stream itself has there.
+  pub taken-is-the-streams-own : (f : Form) (seg re : List ℕ) (pieces : List (List ℕ)) → Asked (inRange (length seg) (length re)) pieces → {m : Meaning} → Hears (machineOf R) holds (start f seg re) 0 pieces m
+      → datesOf m ≡ datesOf (heardOf f (length seg) (length re) (joined pieces))
+  taken-is-the-streams-own f seg re pieces asked {m} h =
+      ap datesOf
+      (pieces-do-not-matter f seg re pieces asked
+      (subst (λ (c : State → List ℕ → Step State Said ℕ). Hears c holds (start f seg re) 0 pieces m) (fun-ext (λ s. fun-ext (λ piece. ap stepOf (keeps (s .reader) (s .segment) (s .reassembly) piece)))) h))
 
   -- of every reader, over all buffers and every piece: no more is taken than is there, and where more is asked for, all of it
   pub taken-is-a-length : (r : Reader) (seg re piece : List ℕ) → (R r seg re piece .taken ≤ length piece) × (R r seg re piece .answer ≡ more → R r seg re piece .taken ≡ length piece)
@@ -220,30 +222,34 @@ module _ (R : Reads) (keeps : Keeps R) where
   taken-is-a-length r seg re piece =
       subst (λ (o : Outcome). (o .taken ≤ length piece) × (o .answer ≡ more → o .taken ≡ length piece)) (sym (keeps r seg re piece)) (by (admissible r (length seg) (length re)) refl)
     where
-      all : (count : ℕ) (answer : Answer) (x : Reader) (s t : List ℕ) → Told r seg re piece count answer x s t → answer ≡ more → count ≡ length piece
-      all count more x s t d e = d .all
-      all count (refused number) x s t d e = absurd (let z : _≡_ {A = ℕ} 1 0 = ap answerTag e in omega arith)
-      all count (leftover n) x s t d e = absurd (let z : _≡_ {A = ℕ} 2 0 = ap answerTag e in omega arith)
-      all count (envelopeAt buffer at v) x s t d e = absurd (let z : _≡_ {A = ℕ} 3 0 = ap answerTag e in omega arith)
+      s : State
+      s = state r seg re
+
+      all : {n : ℕ} (t : State) (answer : Answer) (seg re : List ℕ) → Does reader s piece n (replyOf answer seg re) t → answer ≡ more → n ≡ length piece
+      all t more seg re d e = d .all
+      all t (refused number) seg re d e = absurd (let z : _≡_ {A = ℕ} 1 0 = ap answerTag e in omega arith)
+      all t (leftover n) seg re d e = absurd (let z : _≡_ {A = ℕ} 2 0 = ap answerTag e in omega arith)
+      all t (envelopeAt buffer at v) seg re d e = absurd (let z : _≡_ {A = ℕ} 3 0 = ap answerTag e in omega arith)
 
       by : (b : Bool) → admissible r (length seg) (length re) ≡ b → (call r seg re piece .taken ≤ length piece) × (call r seg re piece .answer ≡ more → call r seg re piece .taken ≡ length piece)
       by true e =
-          let c : Called r seg re piece 0 (call r seg re piece) = called r seg re piece (admissible-ready r seg re e) in
+          let k = lawful .keeps (state r seg re) piece (admissible-ready r seg re e) in
           let o = call r seg re piece in
-          let is : o .taken ≡ c .count = c .is ∙ zero-add (c .count) in
-          (omega (arith, c .within), λ m. is ∙ all (c .count) (o .answer) (o .reader) (o .segment) (o .reassembly) (c .told) m)
+          (k .within, λ m. all (state (o .reader) (o .segment) (o .reassembly)) (o .answer) (o .segment) (o .reassembly) (k .does) m)
       by false e =
           subst (λ (o : Outcome). (o .taken ≤ length piece) × (o .answer ≡ more → o .taken ≡ length piece)) (sym (call-refused r seg re piece e))
           (omega arith, λ m. absurd (let z : _≡_ {A = ℕ} 1 0 = ap answerTag m in omega arith))
 
--- A leftover is the number of bytes behind the last whole envelope of a self-contained payload.
-pub leftover-is-a-length : (z : Lent) (p u : List ℕ) (said : List Said) → Envelopes p said → envelope u ≡ incomplete → 0 < length u → length (p ++ u) ≤ maxPayload
+-- A leftover is the number of bytes behind the last whole envelope of a self-contained payload, and is due with the segment's last byte.
+pub leftover-is-a-length : (z : Lent) (p u : List ℕ) (es : List Message) → Envelopes p es → envelope u ≡ incomplete → 0 < length u → length (p ++ u) ≤ maxPayload
     → segmentLength (z .form) (length (p ++ u)) ≤ z .segment → (taken : ℕ) (stream : List ℕ)
     → (let s : List ℕ = segmentBytes (z .form) true (p ++ u) in
-    meaningFrom z taken [] [] (s ++ stream) ≡ saying said (says (leftoverOf (length u)) (meaningFrom z (taken + length s) [] [] stream)))
-leftover-is-a-length z p u said w none some small room taken stream =
+    let due : ℕ = taken + length s in
+    meaningFrom z taken [] [] (s ++ stream) ≡ saying (answered due segmentBuffer (headerLength (z .form)) es) (says (dated due (leftoverOf (length u))) (meaningFrom z due [] [] stream)))
+leftover-is-a-length z p u es w none some small room taken stream =
     let s : List ℕ = segmentBytes (z .form) true (p ++ u) in
-    let m : Meaning = meaningFrom z (taken + length s) [] [] stream in
+    let due : ℕ = taken + length s in
+    let m : Meaning = meaningFrom z due [] [] stream in
     segment-first z s true (p ++ u) (whole-segment (z .form) true (p ++ u) small) taken [] stream room
-    ∙ said-then w u none (taken + length s) (λ unread. dropping unread m)
-    ∙ ap (λ (b : Bool). saying said (cond b m (says (leftoverOf (length u)) m))) (ne-eqb (length u) 0 (λ e. omega arith))
+    ∙ said-then w u none due segmentBuffer (headerLength (z .form)) (λ unread. dropping due unread m)
+    ∙ ap (λ (b : Bool). saying (answered due segmentBuffer (headerLength (z .form)) es) (cond b m (says (dated due (leftoverOf (length u))) m))) (ne-eqb (length u) 0 (λ e. omega arith))

@@ -1,40 +1,61 @@
 -- One turn of the caller's loop: what a call answers to the bytes of a stream up to some end, and where the caller then stands. Assumes nothing.
 use Prim.Native.Nat.{ℕ, _+_, _-_, _*_, _≤_, _<_}
 use mathlib.Core.Path.{_≡_, refl, sym, ap, ap₂, _∙_, subst}
-use mathlib.Core.Bool.{Bool, true, false, cond}
-use mathlib.Core.List.{List, [], _++_}
-use native.Mathlib.Nat.{zero-add}
+use mathlib.Core.Bool.{true, false}
+use mathlib.Core.List.{List, [], _∷_, _++_, append-assoc, append-nil}
 use native.Mathlib.Omega.{arith}
 use lib.ListN.{length, take, drop, length-drop, take-append-drop}
-use lib.Seq.{drop-drop, drop-append-le, drop-length, length-take-le}
+use lib.Seq.{drop-drop, drop-length, length-take-le}
+use Rattle.basis.specs.Machine.{Dated, dated, says, refusedAfter, holding, saying, Close, usedUp, refusedWith, Uses, by-more, by-refusal, after-one}
+use Rattle.basis.proofs.Machine.{Hands, Kept, kept-by, Told, told, one-then, refused-longer}
 use Rattle.types.specs.Number.{part}
 use Rattle.types.specs.Read.{Place}
 use Rattle.types.proofs.BigEndian.{length-part}
 use Rattle.segment.specs.Header.{Form}
 use Rattle.segment.proofs.HeaderLaid.{head-most}
 use Rattle.frame.specs.Envelope.{Envelope}
-use Rattle.frame_decoder.specs.Reader.{Phase, inHeader, inRest, inSegment, inReassembly, stopped, Reader, fresh, Buffer, bytesAt, Answer, envelopeAt, leftover, more, refused, maxReassembly}
-use Rattle.frame_decoder.specs.Call.{Outcome, outcome, call}
+use Rattle.frame_decoder.specs.Reader.{Phase, inHeader, inRest, inSegment, inReassembly, stopped, Reader, Buffer, bytesAt, Answer, envelopeAt, leftover, more, refused, maxReassembly}
+use Rattle.frame_decoder.specs.Call.{outcome, call}
 use Rattle.frame_decoder.specs.Private.Inside.{Counts, wanted}
-use Rattle.stream.specs.Meaning.{Lent, lent, Said, envelopeOf, leftoverOf, Meaning, says, refusedAfter, holding, meaning}
-use Rattle.stream.specs.Caller.{inRange, segmentHeld, pendingHeld, holds, undelivered, Leaves, left-by-refusal}
-use Rattle.stream.specs.Collect.{bytesOf, markOf, Tape, blank, noted, collected, Ending, refusedEnd, heldEnd, endOf, heardOf, HeardAs}
-use Rattle.stream.specs.Private.Inside.{rest, Agrees, Ready, Way, toHear, WillLeave, Going, Onward, Over, Wants, leftTo, filledOf}
+use Rattle.stream.specs.Meaning.{Said, envelopeOf, leftoverOf, held, Meaning}
+use Rattle.stream.specs.Caller.{inRange, State, state, stepOf, reads, segmentHeld, pendingHeld, holds, start, heardOf}
+use Rattle.stream.specs.Collect.{bytesOf, markOf, Tape, blank, noted, collected, Ending, refusedEnd, heldEnd, endOf, HeardAs}
+use Rattle.stream.specs.Private.Inside.{Way, Going, notedAll, Onward, endingOf, Over, Wants, ahead, filledOf}
 use Rattle.stream.specs.Private.Turn.{PieceUsed, Answered}
-use Rattle.stream.proofs.Calls.{Spoken, Called, call-refused}
-use Rattle.stream.proofs.Left.{left-joined, left-refused, left-envelope, left-leftover, left-waiting}
-use Rattle.stream.proofs.Pieces.{told-by, holds-rest, fresh-ready, fresh-rest, out-of-range}
+use Rattle.stream.proofs.Calls.{Called, called}
+use Rattle.stream.proofs.Longer.{call-waiting}
+use Rattle.stream.proofs.Pieces.{reader, lawful, fresh-ready, fresh-rest, heard-none, out-of-range}
 
 -- ---- ways on
 
+noted-both : (xs ys : List (Dated Said)) (t : Tape) → notedAll (xs ++ ys) t ≡ notedAll ys (notedAll xs t)
+noted-both [] ys t = refl
+noted-both (x ∷ xs) ys t = noted-both xs ys (noted (bytesOf (x .what)) (markOf (x .what)) t)
+
 pub onward-same : (stream : List ℕ) (w : Way) → Onward stream w w
-onward-same stream w = record { tells = refl; ends = refl; leaves = λ S R l. l }
+onward-same stream w = record { handed = []; notes = refl; gives = λ xs c end t u. u }
 
 pub onward-then : {stream : List ℕ} {w v u : Way} → Onward stream w v → Onward stream v u → Onward stream w u
-onward-then p q = record { tells = q .tells ∙ p .tells; ends = q .ends ∙ p .ends; leaves = λ S R l. p .leaves S R (q .leaves S R l) }
+onward-then {stream} {w} {v} {u} p q =
+    record {
+      handed = p .handed ++ q .handed;
+      notes = q .notes ∙ ap (notedAll (q .handed)) (p .notes) ∙ sym (noted-both (p .handed) (q .handed) (w .tape));
+      gives =
+          λ xs c end t g. subst (λ (l : List (Dated Said)). Uses reads (w .at) (w .taken) (drop (w .taken) stream) l c end t) (sym (append-assoc (p .handed) (q .handed) xs))
+          (p .gives (q .handed ++ xs) c end t (q .gives xs c end t g));
+    }
 
 pub onward-over : {stream : List ℕ} {w v : Way} {t : Tape} {e : Ending} {S R : List ℕ} → Onward stream w v → Over stream v t e S R → Over stream w t e S R
-onward-over {S = S} {R = R} p q = record { tells = q .tells ∙ p .tells; ends = q .ends ∙ p .ends; leaves = p .leaves S R (q .leaves) }
+onward-over {w = w} {S = S} {R = R} p q =
+    record {
+      handed = p .handed ++ q .handed;
+      close = q .close;
+      taken = q .taken;
+      reader = q .reader;
+      gives = p .gives (q .handed) (q .close) (q .taken) (state (q .reader) S R) (q .gives);
+      notes = q .notes ∙ ap (notedAll (q .handed)) (p .notes) ∙ sym (noted-both (p .handed) (q .handed) (w .tape));
+      ends = q .ends;
+    }
 
 -- ---- a call
 
@@ -54,163 +75,179 @@ module _ (stream : List ℕ) (end : ℕ) (w : Way) (g : Going stream w) (h : w .
       ap (λ (l : List ℕ). piece ++ l) (ap (λ (i : ℕ). drop i stream) (let i : end ≡ w .taken + (end - w .taken) = omega arith in i) ∙ sym (drop-drop (end - w .taken) (w .taken) stream))
       ∙ take-append-drop (end - w .taken) (drop (w .taken) stream)
 
-  further : (n : ℕ) → drop n (piece ++ behind) ≡ drop (w .taken + n) stream
-  further n = ap (drop n) parted ∙ drop-drop n (w .taken) stream
-
-  module _ {answer : Answer} {n : ℕ} {x : Reader} {seg′ re′ : List ℕ} (e : call (w .reader) (w .segment) (w .reassembly) piece ≡ outcome answer n x seg′ re′) where
-    abbrev c : Called (w .reader) (w .segment) (w .reassembly) piece 0 (outcome answer n x seg′ re′)
-    c = told-by (g .ready) e
-
-    is : n ≡ c .count
-    is = c .is ∙ zero-add (c .count)
+  module _ {answer : Answer} {n : ℕ} {x : Reader} {seg′ re′ : List ℕ} (e : call (w .at .reader) (w .at .segment) (w .at .reassembly) piece ≡ outcome answer n x seg′ re′) where
+    abbrev kept : Kept reader (w .at) piece (stepOf (outcome answer n x seg′ re′))
+    kept = kept-by reader lawful (g .ready) (ap stepOf e)
 
     pub turn-within : w .taken + n ≤ end
-    turn-within = omega (arith, is, c .within, piece-length)
+    turn-within = omega (arith, kept .within, piece-length)
 
     -- where the caller then stands
     abbrev pub after : Tape → Way
-    after t = record { reader = x; segment = seg′; reassembly = re′; taken = w .taken + n; tape = t }
+    after t = record { at = state x seg′ re′; taken = w .taken + n; tape = t }
 
-    module _ (said : Said) (s : Spoken (w .reader) (w .segment) (w .reassembly) piece (c .count) said x seg′ re′) where
-      heard : (t : Tape) → toHear stream w ≡ says said (toHear stream (after t))
-      heard t =
-          ap (rest (w .reader) (w .segment) (w .reassembly) (w .taken)) (sym parted)
-          ∙ s .same (g .agrees) (w .taken) behind
-          ∙ ap (λ (i : ℕ). says said (rest x seg′ re′ (w .taken + i) (drop i piece ++ behind))) (sym is)
-          ∙ ap (λ (l : List ℕ). says said (rest x seg′ re′ (w .taken + n) l)) (sym (drop-append-le n piece behind (omega (arith, is, c .within))) ∙ further n)
-
-      answered : (t : Tape) → t ≡ noted (bytesOf said) (markOf said) (w .tape)
-          → ((S R : List ℕ) → Leaves x seg′ re′ (drop n (piece ++ behind)) S R → Leaves (w .reader) (w .segment) (w .reassembly) (piece ++ behind) S R) → Answered stream end w (after t)
-      answered t q l =
-          record {
-            going = record { ready = c .ready; agrees = s .agrees (g .agrees); within = omega (arith, turn-within) };
-            most = turn-within;
-            less = omega (arith, subst (λ (i : ℕ). undelivered (x .pending) (x .phase) + length (drop i piece) < undelivered (w .reader .pending) (w .reader .phase) + length piece) (sym is) (s .less), length-drop n piece, piece-length, turn-within);
-            onward = record {
-              tells = ap (collected (toHear stream (after t))) q ∙ sym (ap (λ (m : Meaning). collected m (w .tape)) (heard t));
-              ends = sym (ap endOf (heard t));
-              leaves =
-                  λ S R i. subst (λ (y : List ℕ). Leaves (w .reader) (w .segment) (w .reassembly) y S R) parted
-                  (l S R (subst (λ (y : List ℕ). Leaves x seg′ re′ y S R) (sym (further n)) i));
-            };
-          }
-
-  module _ {n : ℕ} {x : Reader} {seg′ re′ : List ℕ} where
-    pub envelope-turn : {buffer : Buffer} {at : Place} {v : Envelope} (e : call (w .reader) (w .segment) (w .reassembly) piece ≡ outcome (envelopeAt buffer at v) n x seg′ re′) (t : Tape) {bytes : List ℕ}
-        → bytes ≡ bytesAt buffer seg′ re′ at → t ≡ noted bytes (length bytes * 2) (w .tape) → Answered stream end w (after e t)
-    envelope-turn {buffer} {at} {v} e t b q =
-        answered e (envelopeOf (bytesAt buffer seg′ re′ at) v) (c e .told) t (q ∙ ap (λ (l : List ℕ). noted l (length l * 2) (w .tape)) b)
-        (λ S R. left-envelope (w .reader) (w .segment) (w .reassembly) piece behind (g .ready) e)
-
-    pub leftover-turn : {left : ℕ} (e : call (w .reader) (w .segment) (w .reassembly) piece ≡ outcome (leftover left) n x seg′ re′) (t : Tape) → t ≡ noted [] (left * 2 + 1) (w .tape)
-        → Answered stream end w (after e t)
-    leftover-turn {left} e t q = answered e (leftoverOf left) (c e .told) t q (λ S R. left-leftover (w .reader) (w .segment) (w .reassembly) piece behind (g .ready) e)
-
-    -- a leftover is no longer than a buffer
-    pub leftover-small : {left : ℕ} → call (w .reader) (w .segment) (w .reassembly) piece ≡ outcome (leftover left) n x seg′ re′ → left ≤ maxReassembly
-    leftover-small e = c e .told .small
-
-    pub more-turn : (e : call (w .reader) (w .segment) (w .reassembly) piece ≡ outcome more n x seg′ re′) → PieceUsed stream end w (after e (w .tape))
-    more-turn e =
-        let t = c e .told in
-        let all : w .taken + n ≡ end = omega (arith, is e, t .all, piece-length) in
-        let same : toHear stream w ≡ toHear stream (after e (w .tape)) =
-        ap (rest (w .reader) (w .segment) (w .reassembly) (w .taken)) (sym parted)
-        ∙ t .same (g .agrees) (w .taken) behind
-        ∙ ap₂ (λ (i j : ℕ). rest x seg′ re′ (w .taken + i) (drop j stream)) (sym (is e)) (sym all)
-        in
+    answered : (said : Said) → Hands reader (w .at) piece n said (state x seg′ re′) → (t : Tape) → t ≡ noted (bytesOf said) (markOf said) (w .tape) → Answered stream end w (after t)
+    answered said d t q =
         record {
-          going = record { ready = c e .ready; agrees = t .agrees (g .agrees); within = omega arith };
-          all = all;
-          wants = t .wanting;
+          going = record { ready = kept .good; untouched = d .sure (g .untouched); within = omega (arith, turn-within) };
+          most = turn-within;
+          less = omega (arith, d .less, length-drop n piece, piece-length, turn-within);
           onward = record {
-            tells = sym (ap (λ (m : Meaning). collected m (w .tape)) same);
-            ends = sym (ap endOf same);
-            leaves =
-                λ S R i. subst (λ (y : List ℕ). Leaves (w .reader) (w .segment) (w .reassembly) y S R) parted
-                (left-joined (w .reader) (w .segment) (w .reassembly) piece behind (g .ready) e (subst (λ (y : ℕ). Leaves x seg′ re′ (drop y stream) S R) all i));
+            handed = dated (w .taken + n) said ∷ [];
+            notes = q;
+            gives =
+                λ xs c last u i. after-one (ap (reads (w .at)) (sym parted) ∙ d .longer behind)
+                (subst (λ (l : List ℕ). Uses reads (state x seg′ re′) (w .taken + n) l xs c last u) (sym (drop-drop n (w .taken) stream)) i);
           };
         }
 
-    pub refused-turn : {number : ℕ} → call (w .reader) (w .segment) (w .reassembly) piece ≡ outcome (refused number) n x seg′ re′
+  module _ {n : ℕ} {x : Reader} {seg′ re′ : List ℕ} where
+    pub envelope-turn : {buffer : Buffer} {at : Place} {v : Envelope} (e : call (w .at .reader) (w .at .segment) (w .at .reassembly) piece ≡ outcome (envelopeAt buffer at v) n x seg′ re′) (t : Tape) {bytes : List ℕ}
+        → bytes ≡ bytesAt buffer seg′ re′ at → t ≡ noted bytes (length bytes * 2) (w .tape) → Answered stream end w (after e t)
+    envelope-turn {buffer} {at} {v} e t b q = answered e (envelopeOf buffer at (bytesAt buffer seg′ re′ at) v) (kept e .does) t (q ∙ ap (λ (l : List ℕ). noted l (length l * 2) (w .tape)) b)
+
+    pub leftover-turn : {left : ℕ} (e : call (w .at .reader) (w .at .segment) (w .at .reassembly) piece ≡ outcome (leftover left) n x seg′ re′) (t : Tape) → t ≡ noted [] (left * 2 + 1) (w .tape)
+        → Answered stream end w (after e t)
+    leftover-turn {left} e t q = answered e (leftoverOf left) (kept e .does) t q
+
+    -- a leftover is no longer than a buffer
+    pub leftover-small : {left : ℕ} → call (w .at .reader) (w .at .segment) (w .at .reassembly) piece ≡ outcome (leftover left) n x seg′ re′ → left ≤ maxReassembly
+    leftover-small e = subst (Called (w .at) piece 0) e (called (w .at .reader) (w .at .segment) (w .at .reassembly) piece (g .ready)) .told .small
+
+    pub more-turn : (e : call (w .at .reader) (w .at .segment) (w .at .reassembly) piece ≡ outcome more n x seg′ re′) → PieceUsed stream end w (after e (w .tape))
+    more-turn e =
+        let d = kept e .does in
+        let all : w .taken + n ≡ end = omega (arith, d .all, piece-length) in
+        record {
+          going = record { ready = kept e .good; untouched = d .sure (g .untouched); within = omega arith };
+          all = all;
+          wants = d .waits;
+          onward = record {
+            handed = [];
+            notes = refl;
+            gives =
+                λ xs c last u i. subst (λ (l : List ℕ). Uses reads (w .at) (w .taken) l xs c last u) parted
+                (one-then reader lawful behind (g .ready) (by-more (ap stepOf e)) (subst (λ (j : ℕ). Uses reads (state x seg′ re′) (w .taken + n) (drop j stream) xs c last u) all i));
+          };
+        }
+
+    pub refused-turn : {number : ℕ} → call (w .at .reader) (w .at .segment) (w .at .reassembly) piece ≡ outcome (refused number) n x seg′ re′
         → Over stream w (w .tape) (refusedEnd number (w .taken + n)) seg′ re′
     refused-turn {number} e =
-        let same : toHear stream w ≡ refusedAfter number (w .taken + n) =
-        ap (rest (w .reader) (w .segment) (w .reassembly) (w .taken)) (sym parted) ∙ c e .told .same (g .agrees) (w .taken) behind ∙ ap (λ (i : ℕ). refusedAfter number (w .taken + i)) (sym (is e))
-        in
         record {
-          tells = sym (ap (λ (m : Meaning). collected m (w .tape)) same);
-          ends = sym (ap endOf same);
-          leaves = subst (λ (y : List ℕ). Leaves (w .reader) (w .segment) (w .reassembly) y seg′ re′) parted (left-refused (w .reader) (w .segment) (w .reassembly) piece behind (g .ready) e);
+          handed = [];
+          close = refusedWith number;
+          taken = w .taken + n;
+          reader = x;
+          gives =
+              subst (λ (l : List ℕ). Uses reads (w .at) (w .taken) l [] (refusedWith number) (w .taken + n) (state x seg′ re′)) parted
+              (refused-longer reader lawful behind (g .ready) (by-refusal (ap stepOf e)));
+          notes = refl;
+          ends = refl;
         }
 
 -- ---- the end
 
 pub over-as : {stream : List ℕ} {w : Way} {t t′ : Tape} {e e′ : Ending} {S R : List ℕ} → Over stream w t e S R → t′ ≡ t → e′ ≡ e → Over stream w t′ e′ S R
-over-as o p q = record { tells = p ∙ o .tells; ends = q ∙ o .ends; leaves = o .leaves }
+over-as o p q = record { handed = o .handed; close = o .close; taken = o .taken; reader = o .reader; gives = o .gives; notes = p ∙ o .notes; ends = q ∙ o .ends }
 
 -- nothing more comes, and what is held is told
-module _ (stream : List ℕ) (v : Way) (g : Going stream v) (all : v .taken ≡ length stream) (wants : Wants v) where
+module _ (stream : List ℕ) (v : Way) (g : Going stream v) (all : v .taken ≡ length stream) (wants : Wants (v .at)) where
   abbrev r : Reader
-  r = v .reader
+  r = v .at .reader
+
+  abbrev seg : List ℕ
+  seg = v .at .segment
+
+  abbrev re : List ℕ
+  re = v .at .reassembly
 
   none-left : drop (v .taken) stream ≡ []
   none-left = ap (λ (n : ℕ). drop n stream) all ∙ drop-length stream
 
-  same : toHear stream v ≡ holds r (v .segment) (v .reassembly)
-  same = ap (rest r (v .segment) (v .reassembly) (v .taken)) none-left ∙ holds-rest r (v .segment) (v .reassembly) (g .ready) (v .taken) (g .agrees) wants
-
-  held-end : (q : Phase) → Counts (r .form) (length (v .segment)) (r .pending) q → 0 < wanted (r .form) q
-      → heldEnd (filledOf q) (take (filledOf q) (v .segment)) (r .pending) (take (r .pending) (v .reassembly)) ≡ endOf (holding (segmentHeld q (v .segment)) (pendingHeld (r .pending) q (v .reassembly)))
+  held-end : (q : Phase) → Counts (r .form) (length seg) (r .pending) q → 0 < wanted (r .form) q
+      → heldEnd (filledOf q) (take (filledOf q) seg) (r .pending) (take (r .pending) re) ≡ endOf (holding (held (segmentHeld q seg) (pendingHeld (r .pending) q re)))
   held-end (inHeader n) k w =
-      ap₂ (λ (i j : ℕ). heldEnd i (take n (v .segment)) j (take (r .pending) (v .reassembly))) (sym (length-take-le n (v .segment) (omega (arith, head-most (r .form), g .ready .ok .least))))
-      (sym (length-take-le (r .pending) (v .reassembly) (g .ready .ok .held)))
+      ap₂ (λ (i j : ℕ). heldEnd i (take n seg) j (take (r .pending) re)) (sym (length-take-le n seg (omega (arith, head-most (r .form), g .ready .ok .least))))
+      (sym (length-take-le (r .pending) re (g .ready .ok .held)))
   held-end (inRest n len self) k w =
-      ap₂ (λ (i j : ℕ). heldEnd i (take n (v .segment)) j (take (r .pending) (v .reassembly))) (sym (length-take-le n (v .segment) (omega (arith, k .1, k .2))))
-      (sym (length-take-le (r .pending) (v .reassembly) (g .ready .ok .held)))
+      ap₂ (λ (i j : ℕ). heldEnd i (take n seg) j (take (r .pending) re)) (sym (length-take-le n seg (omega (arith, k .1, k .2))))
+      (sym (length-take-le (r .pending) re (g .ready .ok .held)))
   held-end (inSegment len at) k w = absurd (omega arith)
   held-end (inReassembly at) k w = absurd (omega arith)
   held-end (stopped number) k w = absurd (omega arith)
 
-  pub over-waiting : Over stream v (v .tape) (heldEnd (filledOf (r .phase)) (take (filledOf (r .phase)) (v .segment)) (r .pending) (take (r .pending) (v .reassembly))) (v .segment) (v .reassembly)
+  pub over-waiting : Over stream v (v .tape) (heldEnd (filledOf (r .phase)) (take (filledOf (r .phase)) seg) (r .pending) (take (r .pending) re)) seg re
   over-waiting =
       record {
-        tells = sym (ap (λ (m : Meaning). collected m (v .tape)) same);
-        ends = held-end (r .phase) (g .ready .ok .counts) wants ∙ sym (ap endOf same);
-        leaves = subst (λ (l : List ℕ). Leaves r (v .segment) (v .reassembly) l (v .segment) (v .reassembly)) (sym none-left) (left-waiting r (v .segment) (v .reassembly) (g .ready) wants);
+        handed = [];
+        close = usedUp;
+        taken = v .taken + 0;
+        reader = r;
+        gives = subst (λ (l : List ℕ). Uses reads (v .at) (v .taken) l [] usedUp (v .taken + 0) (v .at)) (sym none-left) (by-more (ap stepOf (call-waiting r seg re (g .ready) wants)));
+        notes = refl;
+        ends = held-end (r .phase) (g .ready .ok .counts) wants;
       }
 
 -- ---- the start
 
+-- what is written down of a story's answers, and its end
+collected-saying : (xs : List (Dated Said)) (m : Meaning) (t : Tape) → collected (saying xs m) t ≡ collected m (notedAll xs t)
+collected-saying [] m t = refl
+collected-saying (x ∷ xs) m t = collected-saying xs m (noted (bytesOf (x .what)) (markOf (x .what)) t)
+
+pub end-saying : (xs : List (Dated Said)) (m : Meaning) → endOf (saying xs m) ≡ endOf m
+end-saying [] m = refl
+end-saying (x ∷ xs) m = end-saying xs m
+
+abbrev closing : Close ℕ → ℕ → State → Meaning
+closing usedUp n t = holding (holds t)
+closing (refusedWith number) n t = refusedAfter number n
+
+closing-tape : (c : Close ℕ) (n : ℕ) (s : State) (t : Tape) → collected (closing c n s) t ≡ t
+closing-tape usedUp n s t = refl
+closing-tape (refusedWith number) n s t = refl
+
+closing-end : (c : Close ℕ) (n : ℕ) (s : State) → endOf (closing c n s) ≡ endingOf c n s
+closing-end usedUp n s = refl
+closing-end (refusedWith number) n s = refl
+
 module _ (f : Form) (seg re stream envelopes marks : List ℕ) where
-  abbrev z : Lent
-  z = lent f (length seg) (length re)
-
-  heard-all : inRange (length seg) (length re) ≡ true → heardOf f (length seg) (length re) stream ≡ meaning z stream
-  unfolding heardOf
-  heard-all e = ap (λ (b : Bool). cond b (meaning z stream) (refusedAfter 1 0)) e
-
-  heard-none : inRange (length seg) (length re) ≡ false → heardOf f (length seg) (length re) stream ≡ refusedAfter 1 0
-  unfolding heardOf
-  heard-none e = ap (λ (b : Bool). cond b (meaning z stream) (refusedAfter 1 0)) e
-
   -- a fresh reader before the stream's first byte
-  abbrev start : Way
-  start = record { reader = fresh f (length seg) (length re); segment = seg; reassembly = re; taken = 0; tape = blank envelopes marks }
+  abbrev first : Way
+  first = record { at = start f seg re; taken = 0; tape = blank envelopes marks }
 
-  pub start-going : inRange (length seg) (length re) ≡ true → Going stream start
-  start-going e = record { ready = fresh-ready f seg re e; agrees = tt; within = omega arith }
+  module _ (range : inRange (length seg) (length re) ≡ true) where
+    pub start-going : Going stream first
+    start-going = record { ready = fresh-ready f seg re range; untouched = tt; within = omega arith }
 
-  pub start-over : inRange (length seg) (length re) ≡ true → {t : Tape} {e : Ending} {S R : List ℕ} → Over stream start t e S R → HeardAs f seg re stream envelopes marks t e S R
-  start-over range o =
-      let same : toHear stream start ≡ heardOf f (length seg) (length re) stream = fresh-rest f seg re range stream ∙ sym (heard-all range) in
-      record { tells = o .tells ∙ ap (λ (m : Meaning). collected m (blank envelopes marks)) same; ends = o .ends ∙ ap endOf same; leaves = o .leaves }
+    closes : (c : Close ℕ) {xs : List (Dated Said)} {n : ℕ} {t : State} → Told reader lawful (start f seg re) 0 stream xs c n t → heardOf f (length seg) (length re) stream ≡ saying xs (closing c n t)
+    closes usedUp {xs} {n} {t} i =
+        sym (fresh-rest f seg re range stream)
+        ∙ ap (reader .rest (start f seg re) 0) (sym (append-nil stream))
+        ∙ i .same tt []
+        ∙ ap (saying xs) (lawful .quiet t n (i .good) (i .rests .2 tt) (i .rests .1))
+    closes (refusedWith number) i = sym (fresh-rest f seg re range stream) ∙ ap (reader .rest (start f seg re) 0) (sym (append-nil stream)) ∙ i .same tt []
+
+    pub start-over : {t : Tape} {e : Ending} {S R : List ℕ} → Over stream first t e S R → HeardAs f seg re stream envelopes marks t e S R
+    start-over {t} {e} {S} {R} o =
+        let last : State = state (o .reader) S R in
+        let same : heardOf f (length seg) (length re) stream ≡ saying (o .handed) (closing (o .close) (o .taken) last) = closes (o .close) (told reader lawful (fresh-ready f seg re range) (o .gives)) in
+        record {
+          tells =
+              o .notes
+              ∙ sym (ap (λ (m : Meaning). collected m (blank envelopes marks)) same
+              ∙ collected-saying (o .handed) (closing (o .close) (o .taken) last) (blank envelopes marks)
+              ∙ closing-tape (o .close) (o .taken) last (notedAll (o .handed) (blank envelopes marks)));
+          ends = o .ends ∙ sym (ap endOf same ∙ end-saying (o .handed) (closing (o .close) (o .taken) last) ∙ closing-end (o .close) (o .taken) last);
+          leaves = record { handed = o .handed; close = o .close; taken = o .taken; reader = o .reader; uses = o .gives };
+        }
 
   -- lengths out of range
   pub start-refused : inRange (length seg) (length re) ≡ false → HeardAs f seg re stream envelopes marks (blank envelopes marks) (refusedEnd 1 0) seg re
-  start-refused e =
+  start-refused range =
       record {
-        tells = sym (ap (λ (m : Meaning). collected m (blank envelopes marks)) (heard-none e));
-        ends = sym (ap endOf (heard-none e));
-        leaves = left-by-refusal (call-refused (fresh f (length seg) (length re)) seg re stream (out-of-range f seg re e));
+        tells = sym (ap (λ (m : Meaning). collected m (blank envelopes marks)) (heard-none f seg re range stream));
+        ends = sym (ap endOf (heard-none f seg re range stream));
+        leaves = record { handed = []; close = refusedWith 1; taken = 0 + 0; reader = start f seg re .reader; uses = by-refusal (out-of-range f seg re range stream) };
       }

@@ -1,19 +1,39 @@
 -- A caller who gives a stream in pieces, and what it hears: docs/RULES.md, 6.3 and 6.11. Assumes nothing.
-use Prim.Native.Nat.{ℕ, suc, _+_, _-_}
-use mathlib.Core.Path.{_≡_}
-use mathlib.Core.Bool.{Bool, _&&_}
+use Prim.Native.Nat.{ℕ, _+_, _-_}
+use mathlib.Core.Bool.{Bool, true, false, cond, _&&_}
 use mathlib.Core.List.{List, [], _∷_}
-use lib.ListN.{length, take, drop}
+use lib.ListN.{length, take}
+use Rattle.basis.specs.Machine.{Reply, handsOn, asksMore, refusesWith, Step, step, Dated, refusedAfter, Close, Uses, Hears}
 use Rattle.types.specs.Number.{part}
-use Rattle.types.specs.Read.{Place}
-use Rattle.frame.specs.Envelope.{Envelope}
-use Rattle.frame_decoder.specs.Reader.{Phase, inHeader, inRest, inSegment, inReassembly, stopped, Reader, Buffer, bytesAt, envelopeAt, leftover, more, refused, minSegment, maxSegment, minReassembly, maxReassembly, between}
-use Rattle.frame_decoder.specs.Call.{Outcome, outcome, call}
-use Rattle.stream.specs.Meaning.{Meaning, says, refusedAfter, holding, envelopeOf, leftoverOf}
+use Rattle.segment.specs.Header.{Form}
+use Rattle.frame_decoder.specs.Reader.{Phase, inHeader, inRest, inSegment, inReassembly, stopped, Reader, fresh, bytesAt, Answer, envelopeAt, leftover, more, refused, minSegment, maxSegment, minReassembly, maxReassembly, between}
+use Rattle.frame_decoder.specs.Call.{Outcome, call}
+use Rattle.stream.specs.Meaning.{lent, Said, envelopeOf, leftoverOf, Held, held, Meaning, meaning}
 
--- 6.2: both lent lengths are in range
-unfoldable pub inRange : ℕ → ℕ → Bool
-inRange a b = between minSegment maxSegment a && between minReassembly maxReassembly b
+-- ---- the reader as a machine
+
+-- a reader, and what its two buffers hold
+pub record State : Type 0 where
+  pub reader : Reader
+  pub segment : List ℕ
+  pub reassembly : List ℕ
+
+abbrev pub state : Reader → List ℕ → List ℕ → State
+state r segment reassembly = record { reader = r; segment = segment; reassembly = reassembly }
+
+-- what is heard of an answer, the buffers then holding this; an envelope with its place and its bytes
+abbrev pub replyOf : Answer → List ℕ → List ℕ → Reply Said ℕ
+replyOf (envelopeAt buffer at e) segment reassembly = handsOn (envelopeOf buffer at (bytesAt buffer segment reassembly at) e)
+replyOf (leftover n) segment reassembly = handsOn (leftoverOf n)
+replyOf more segment reassembly = asksMore
+replyOf (refused number) segment reassembly = refusesWith number
+
+abbrev pub stepOf : Outcome → Step State Said ℕ
+stepOf o = step (replyOf (o .answer) (o .segment) (o .reassembly)) (o .taken) (state (o .reader) (o .segment) (o .reassembly))
+
+-- one call of the reader
+abbrev pub reads : State → List ℕ → Step State Said ℕ
+reads s piece = stepOf (call (s .reader) (s .segment) (s .reassembly) piece)
 
 -- ---- 6.11: the bytes held
 
@@ -31,42 +51,8 @@ pendingHeld pending (inSegment len at) reassembly = take pending reassembly
 pendingHeld pending (inReassembly at) reassembly = part reassembly at (pending - at)
 pendingHeld pending (stopped number) reassembly = []
 
-abbrev pub holds : Reader → List ℕ → List ℕ → Meaning
-holds r segment reassembly = holding (segmentHeld (r .phase) segment) (pendingHeld (r .pending) (r .phase) reassembly)
-
--- ---- the caller's loop
-
--- A reader, what its two buffers hold, how many bytes were taken, and the pieces still to be given; and what is heard, *more* left out. Each call gives what is left of the
--- first piece, and what the call before left of reader and buffers, untouched; *more* turns to the next piece, a refusal ends it.
-pub data Hears : Reader → List ℕ → List ℕ → ℕ → List (List ℕ) → Meaning → Type 0 where
-  all-given : {r : Reader} {segment reassembly : List ℕ} {taken : ℕ} → Hears r segment reassembly taken [] (holds r segment reassembly)
-  hears-more : {r r′ : Reader} {segment segment′ reassembly reassembly′ piece : List ℕ} {taken n : ℕ} {pieces : List (List ℕ)} {m : Meaning}
-      → call r segment reassembly piece ≡ outcome more n r′ segment′ reassembly′ → Hears r′ segment′ reassembly′ (taken + n) pieces m
-      → Hears r segment reassembly taken (piece ∷ pieces) m
-  hears-envelope : {r r′ : Reader} {segment segment′ reassembly reassembly′ piece : List ℕ} {taken n : ℕ} {pieces : List (List ℕ)} {m : Meaning} {buffer : Buffer} {at : Place} {e : Envelope}
-      → call r segment reassembly piece ≡ outcome (envelopeAt buffer at e) n r′ segment′ reassembly′ → Hears r′ segment′ reassembly′ (taken + n) (drop n piece ∷ pieces) m
-      → Hears r segment reassembly taken (piece ∷ pieces) (says (envelopeOf (bytesAt buffer segment′ reassembly′ at) e) m)
-  hears-leftover : {r r′ : Reader} {segment segment′ reassembly reassembly′ piece : List ℕ} {taken n : ℕ} {pieces : List (List ℕ)} {m : Meaning} {k : ℕ}
-      → call r segment reassembly piece ≡ outcome (leftover k) n r′ segment′ reassembly′ → Hears r′ segment′ reassembly′ (taken + n) (drop n piece ∷ pieces) m
-      → Hears r segment reassembly taken (piece ∷ pieces) (says (leftoverOf k) m)
-  hears-refusal : {r r′ : Reader} {segment segment′ reassembly reassembly′ piece : List ℕ} {taken n : ℕ} {pieces : List (List ℕ)} {number : ℕ}
-      → call r segment reassembly piece ≡ outcome (refused number) n r′ segment′ reassembly′
-      → Hears r segment reassembly taken (piece ∷ pieces) (refusedAfter number (taken + n))
-
--- ---- how soon a piece is used up
-
--- a piece is used up after so many answers other than more and a refusal
-pub data UsedUp : Reader → List ℕ → List ℕ → List ℕ → ℕ → Type 0 where
-  by-more : {r r′ : Reader} {segment segment′ reassembly reassembly′ piece : List ℕ} {n : ℕ}
-      → call r segment reassembly piece ≡ outcome more n r′ segment′ reassembly′ → UsedUp r segment reassembly piece 0
-  by-refusal : {r r′ : Reader} {segment segment′ reassembly reassembly′ piece : List ℕ} {n number : ℕ}
-      → call r segment reassembly piece ≡ outcome (refused number) n r′ segment′ reassembly′ → UsedUp r segment reassembly piece 0
-  after-envelope : {r r′ : Reader} {segment segment′ reassembly reassembly′ piece : List ℕ} {n answers : ℕ} {buffer : Buffer} {at : Place} {e : Envelope}
-      → call r segment reassembly piece ≡ outcome (envelopeAt buffer at e) n r′ segment′ reassembly′ → UsedUp r′ segment′ reassembly′ (drop n piece) answers
-      → UsedUp r segment reassembly piece (suc answers)
-  after-leftover : {r r′ : Reader} {segment segment′ reassembly reassembly′ piece : List ℕ} {n answers k : ℕ}
-      → call r segment reassembly piece ≡ outcome (leftover k) n r′ segment′ reassembly′ → UsedUp r′ segment′ reassembly′ (drop n piece) answers
-      → UsedUp r segment reassembly piece (suc answers)
+abbrev pub holds : State → Held
+holds s = held (segmentHeld (s .reader .phase) (s .segment)) (pendingHeld (s .reader .pending) (s .reader .phase) (s .reassembly))
 
 -- bytes that a reader holds or has still to deliver
 abbrev pub undelivered : ℕ → Phase → ℕ
@@ -76,17 +62,36 @@ undelivered pending (inSegment len at) = len - at + pending
 undelivered pending (inReassembly at) = pending - at
 undelivered pending (stopped number) = 0
 
+-- ---- a fresh reader
+
+-- 6.2: both lent lengths are in range
+unfoldable pub inRange : ℕ → ℕ → Bool
+inRange a b = between minSegment maxSegment a && between minReassembly maxReassembly b
+
+-- a fresh reader over two buffers, whatever they hold
+abbrev pub start : Form → List ℕ → List ℕ → State
+start form segment reassembly = state (fresh form (length segment) (length reassembly)) segment reassembly
+
+-- what a caller hears of it that gives these pieces, *more* left out
+abbrev pub HearsOf : Form → List ℕ → List ℕ → List (List ℕ) → Meaning → Type 0
+HearsOf form segment reassembly pieces m = Hears reads holds (start form segment reassembly) 0 pieces m
+
+-- what the stream means to it: 1 where a lent length is out of range
+unfoldable pub heardOf : Form → ℕ → ℕ → List ℕ → Meaning
+heardOf form segment reassembly stream = cond (inRange segment reassembly) (meaning (lent form segment reassembly) stream) (refusedAfter 1 0)
+
+-- without a call 1 is not heard: a piece is given, empty or not, or the lengths are in range
+abbrev pub Asked : Bool → List (List ℕ) → Type 0
+Asked true pieces = Unit {0}
+Asked false [] = ⊥
+Asked false (piece ∷ pieces) = Unit {0}
+
 -- ---- what is left behind
 
 -- what the two buffers hold once a piece is used up
-pub data Leaves : Reader → List ℕ → List ℕ → List ℕ → List ℕ → List ℕ → Type 0 where
-  left-by-more : {r r′ : Reader} {segment segment′ reassembly reassembly′ piece : List ℕ} {n : ℕ}
-      → call r segment reassembly piece ≡ outcome more n r′ segment′ reassembly′ → Leaves r segment reassembly piece segment′ reassembly′
-  left-by-refusal : {r r′ : Reader} {segment segment′ reassembly reassembly′ piece : List ℕ} {n number : ℕ}
-      → call r segment reassembly piece ≡ outcome (refused number) n r′ segment′ reassembly′ → Leaves r segment reassembly piece segment′ reassembly′
-  left-after-envelope : {r r′ : Reader} {segment segment′ reassembly reassembly′ piece last-segment last-reassembly : List ℕ} {n : ℕ} {buffer : Buffer} {at : Place} {e : Envelope}
-      → call r segment reassembly piece ≡ outcome (envelopeAt buffer at e) n r′ segment′ reassembly′ → Leaves r′ segment′ reassembly′ (drop n piece) last-segment last-reassembly
-      → Leaves r segment reassembly piece last-segment last-reassembly
-  left-after-leftover : {r r′ : Reader} {segment segment′ reassembly reassembly′ piece last-segment last-reassembly : List ℕ} {n k : ℕ}
-      → call r segment reassembly piece ≡ outcome (leftover k) n r′ segment′ reassembly′ → Leaves r′ segment′ reassembly′ (drop n piece) last-segment last-reassembly
-      → Leaves r segment reassembly piece last-segment last-reassembly
+pub record Leaves (s : State) (piece segment reassembly : List ℕ) : Type 0 where
+  pub handed : List (Dated Said)
+  pub close : Close ℕ
+  pub taken : ℕ
+  pub reader : Reader
+  pub uses : Uses reads s 0 piece handed close taken (state reader segment reassembly)

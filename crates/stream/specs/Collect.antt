@@ -1,30 +1,30 @@
 -- What a caller writes down of a stream: docs/RULES.md, 10.4. Assumes nothing.
-use Prim.Native.Nat.{ℕ, _+_, _*_}
+use Prim.Native.Nat.{ℕ, _+_, _*_, _≤_}
 use mathlib.Core.Path.{_≡_}
 use mathlib.Core.Bool.{Bool, true, false, cond, _&&_}
-use mathlib.Core.List.{List, []}
+use mathlib.Core.List.{List, [], _∷_, map}
 use lib.Dec.{leb, ltb}
-use lib.ListN.{length, set}
-use Rattle.types.specs.Write.{put}
+use lib.ListN.{length, take, set}
+use Rattle.basis.specs.Machine.{Dated, says, refusedAfter, holding}
+use Rattle.types.specs.Write.{put, joined}
 use Rattle.segment.specs.Header.{Form}
-use Rattle.frame_decoder.specs.Reader.{fresh}
-use Rattle.stream.specs.Meaning.{lent, Said, envelopeOf, leftoverOf, Meaning, says, refusedAfter, holding, meaning}
-use Rattle.stream.specs.Caller.{inRange, Leaves}
+use Rattle.stream.specs.Meaning.{Said, envelopeOf, leftoverOf, Meaning}
+use Rattle.stream.specs.Caller.{start, heardOf, Leaves}
 
 -- ---- of one answer
 
 -- how many bytes it speaks of
 abbrev pub saidLength : Said → ℕ
-saidLength (envelopeOf bytes e) = length bytes
+saidLength (envelopeOf buffer at bytes e) = length bytes
 saidLength (leftoverOf n) = n
 
 -- an envelope's bytes, and twice their number; of a leftover no bytes, and twice its number and one
 abbrev pub bytesOf : Said → List ℕ
-bytesOf (envelopeOf bytes e) = bytes
+bytesOf (envelopeOf buffer at bytes e) = bytes
 bytesOf (leftoverOf n) = []
 
 abbrev pub markOf : Said → ℕ
-markOf (envelopeOf bytes e) = length bytes * 2
+markOf (envelopeOf buffer at bytes e) = length bytes * 2
 markOf (leftoverOf n) = n * 2 + 1
 
 -- ---- of all
@@ -55,9 +55,9 @@ noted bytes mark t =
     (tape (t .answers) (t .bytes) false (t .envelopes) (t .marks))
 
 abbrev pub collected : Meaning → Tape → Tape
-collected (says x m) t = collected m (noted (bytesOf x) (markOf x) t)
+collected (says x m) t = collected m (noted (bytesOf (x .what)) (markOf (x .what)) t)
 collected (refusedAfter number taken) t = t
-collected (holding segment pending) t = t
+collected (holding h) t = t
 
 -- how it ends: a refusal's number and how many bytes were taken; or how many bytes of an unfinished segment are held, and which, and how many pending ones, and which
 pub data Ending : Type 0 where
@@ -67,16 +67,27 @@ pub data Ending : Type 0 where
 abbrev pub endOf : Meaning → Ending
 endOf (says x m) = endOf m
 endOf (refusedAfter number taken) = refusedEnd number taken
-endOf (holding segment pending) = heldEnd (length segment) segment (length pending) pending
+endOf (holding h) = heldEnd (length (h .segment)) (h .segment) (length (h .pending)) (h .pending)
 
 -- ---- of a stream
-
--- 1 where a lent length is out of range
-unfoldable pub heardOf : Form → ℕ → ℕ → List ℕ → Meaning
-heardOf form segment reassembly stream = cond (inRange segment reassembly) (meaning (lent form segment reassembly) stream) (refusedAfter 1 0)
 
 -- what a caller wrote down of a stream given to a fresh reader, how it ended, and what it left in the two buffers
 pub record HeardAs (form : Form) (segment reassembly stream envelopes marks : List ℕ) (t : Tape) (end : Ending) (last-segment last-reassembly : List ℕ) : Type 0 where
   pub tells : t ≡ collected (heardOf form (length segment) (length reassembly) stream) (blank envelopes marks)
   pub ends : end ≡ endOf (heardOf form (length segment) (length reassembly) stream)
-  pub leaves : Leaves (fresh form (length segment) (length reassembly)) segment reassembly stream last-segment last-reassembly
+  pub leaves : Leaves (start form segment reassembly) stream last-segment last-reassembly
+
+-- ---- what stands written
+
+-- the answers of a meaning, without its end
+abbrev pub answersOf : Meaning → List (Dated Said)
+answersOf (says x m) = x ∷ answersOf m
+answersOf (refusedAfter number taken) = []
+answersOf (holding h) = []
+
+-- these answers are written down: a mark for each, and the bytes of the envelopes one after the other
+pub record WrittenDown (t : Tape) (answers : List (Dated Said)) : Type 0 where
+  pub marks : take (t .answers) (t .marks) ≡ map (λ x. markOf (x .what)) answers
+  pub bytes : take (t .bytes) (t .envelopes) ≡ joined (map (λ x. bytesOf (x .what)) answers)
+  pub marks-room : t .answers ≤ length (t .marks)
+  pub bytes-room : t .bytes ≤ length (t .envelopes)

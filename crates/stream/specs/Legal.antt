@@ -1,21 +1,43 @@
 -- Legal streams, and lent sizes that suffice: docs/RULES.md, section 10. Assumes nothing.
-use Prim.Native.Nat.{ℕ, _≤_}
+use Prim.Native.Nat.{ℕ, _+_, _-_, _≤_}
 use mathlib.Core.Path.{_≡_}
 use mathlib.Core.Logic.{_≢_}
-use mathlib.Core.Bool.{Bool, true, false}
+use mathlib.Core.Bool.{Bool, true, false, cond}
 use mathlib.Core.List.{List, [], _∷_, _++_}
+use lib.Dec.{leb}
 use lib.ListN.{length}
 use Rattle.basis.specs.Front.{whole}
-use Rattle.segment.specs.Header.{Form}
+use Rattle.basis.specs.Machine.{Dated, dated, says, refusedAfter, holding, saying}
+use Rattle.types.specs.Read.{place}
+use Rattle.segment.specs.Header.{Form, headerLength}
 use Rattle.segment.specs.Segment.{segment, segmentLength, segmentAt}
 use Rattle.frame.specs.Envelope.{Envelope, envelope}
-use Rattle.stream.specs.Meaning.{Lent, Said, envelopeOf, Meaning, says, refusedAfter, holding}
+use Rattle.frame_decoder.specs.Reader.{Buffer, segmentBuffer, reassemblyBuffer}
+use Rattle.stream.specs.Meaning.{Lent, lent, Said, envelopeOf, held, Meaning, meaning}
+use Rattle.stream.specs.Caller.{inRange}
 
--- whole envelopes one after the other, to none of which 8 to 13 applies; and what is to be said of them
-pub data Envelopes : List ℕ → List Said → Type 0 where
+-- ---- whole envelopes
+
+-- the bytes of an envelope, and its reading
+pub record Message : Type 0 where
+  pub bytes : List ℕ
+  pub reading : Envelope
+
+abbrev pub message : List ℕ → Envelope → Message
+message bytes reading = record { bytes = bytes; reading = reading }
+
+-- whole envelopes one after the other, to none of which 8 to 13 applies
+pub data Envelopes : List ℕ → List Message → Type 0 where
   no-envelope : Envelopes [] []
-  one-envelope : {bytes others : List ℕ} {v : Envelope} {said : List Said} → envelope bytes ≡ whole v → v .size ≡ length bytes → Envelopes others said
-      → Envelopes (bytes ++ others) (envelopeOf bytes v ∷ said)
+  one-envelope : {bytes others : List ℕ} {v : Envelope} {es : List Message} → envelope bytes ≡ whole v → v .size ≡ length bytes → Envelopes others es
+      → Envelopes (bytes ++ others) (message bytes v ∷ es)
+
+-- as they are answered: due after so many bytes of the stream, one behind the other in this buffer from `at` on
+unfoldable pub answered : ℕ → Buffer → ℕ → List Message → List (Dated Said)
+answered due buffer at [] = []
+answered due buffer at (e ∷ es) = dated due (envelopeOf buffer (place at (length (e .bytes))) (e .bytes) (e .reading)) ∷ answered due buffer (at + length (e .bytes)) es
+
+-- ---- segments
 
 -- a whole segment to which none of 2, 3 and 5 applies: its bytes, whether it is self-contained, and its payload
 pub record WholeSegment (form : Form) (bytes : List ℕ) (self : Bool) (payload : List ℕ) : Type 0 where
@@ -27,37 +49,60 @@ pub data Run (form : Form) : List ℕ → List ℕ → Type 0 where
   no-segment : Run form [] []
   one-segment : {bytes payload others payloads : List ℕ} → WholeSegment form bytes false payload → Run form others payloads → Run form (bytes ++ others) (payload ++ payloads)
 
--- a legal stream, and what is to be said of it
-pub data Legal (form : Form) : List ℕ → List Said → Type 0 where
-  legal-end : Legal form [] []
-  legal-alone : {bytes payload others : List ℕ} {first later : List Said} → WholeSegment form bytes true payload → Envelopes payload first → Legal form others later
-      → Legal form (bytes ++ others) (first ++ later)
-  legal-run : {bytes payloads others : List ℕ} {first later : List Said} → Run form bytes payloads → Envelopes payloads first → Legal form others later
-      → Legal form (bytes ++ others) (first ++ later)
+-- Of envelopes one after the other, of which n bytes are there: those that are whole, the others, and how many of the bytes are left for these.
+unfoldable pub complete : ℕ → List Message → List Message
+complete n [] = []
+complete n (e ∷ es) = cond (leb (length (e .bytes)) n) (e ∷ complete (n - length (e .bytes)) es) []
 
--- all of this, and then that
-abbrev pub saying : List Said → Meaning → Meaning
-saying [] m = m
-saying (x ∷ said) m = says x (saying said m)
+unfoldable pub others : ℕ → List Message → List Message
+others n [] = []
+others n (e ∷ es) = cond (leb (length (e .bytes)) n) (others (n - length (e .bytes)) es) (e ∷ es)
+
+unfoldable pub unread : ℕ → List Message → ℕ
+unread n [] = n
+unread n (e ∷ es) = cond (leb (length (e .bytes)) n) (unread (n - length (e .bytes)) es) n
+
+-- 6.7, 6.9: envelopes of a run are answered with the segment that makes them whole, the first of each from the front of the reassembly buffer; so many bytes are pending before it
+abbrev pub runAnswered : {form : Form} {bytes payloads : List ℕ} → Run form bytes payloads → ℕ → ℕ → List Message → List (Dated Said)
+runAnswered no-segment taken pending es = []
+runAnswered (one-segment {bytes = bytes} {payload = payload} g run) taken pending es =
+    answered (taken + length bytes) reassemblyBuffer 0 (complete (pending + length payload) es)
+    ++ runAnswered run (taken + length bytes) (unread (pending + length payload) es) (others (pending + length payload) es)
+
+-- ---- 10.1
+
+-- a legal stream, with so many bytes before it, and the answers that are to come of it
+pub data Legal (form : Form) : ℕ → List ℕ → List (Dated Said) → Type 0 where
+  legal-end : {taken : ℕ} → Legal form taken [] []
+  legal-alone : {taken : ℕ} {bytes payload stream : List ℕ} {es : List Message} {later : List (Dated Said)} → WholeSegment form bytes true payload → Envelopes payload es
+      → Legal form (taken + length bytes) stream later
+      → Legal form taken (bytes ++ stream) (answered (taken + length bytes) segmentBuffer (headerLength form) es ++ later)
+  legal-run : {taken : ℕ} {bytes payloads stream : List ℕ} {es : List Message} {later : List (Dated Said)} (run : Run form bytes payloads) → Envelopes payloads es
+      → Legal form (taken + length bytes) stream later → Legal form taken (bytes ++ stream) (runAnswered run taken 0 es ++ later)
 
 -- exactly these, and nothing is held
-abbrev pub exactly : List Said → Meaning
-exactly said = saying said (holding [] [])
+abbrev pub exactly : List (Dated Said) → Meaning
+exactly answers = saying answers (holding (held [] []))
 
 -- ---- 10.2
 
 -- 4 and 7 never apply
-abbrev pub Suffices : Meaning → Type 0
-Suffices (says x m) = Suffices m
-Suffices (refusedAfter number taken) = (number ≢ 4) × (number ≢ 7)
-Suffices (holding segment pending) = Unit
+abbrev pub NeverShort : Meaning → Type 0
+NeverShort (says x m) = NeverShort m
+NeverShort (refusedAfter number taken) = (number ≢ 4) × (number ≢ 7)
+NeverShort (holding h) = Unit {0}
+
+-- both lent lengths are in range, and so it is of this stream
+pub record Suffices (form : Form) (segment reassembly : ℕ) (stream : List ℕ) : Type 0 where
+  pub range : inRange segment reassembly ≡ true
+  pub never : NeverShort (meaning (lent form segment reassembly) stream)
 
 -- the same in numbers: each segment fits the segment buffer, and the payloads of each run together the other
 abbrev pub RunFits : (z : Lent) {bytes payloads : List ℕ} → Run (z .form) bytes payloads → Type 0
-RunFits z no-segment = Unit
-RunFits z (one-segment {payload = payload} g others) = (segmentLength (z .form) (length payload) ≤ z .segment) × RunFits z others
+RunFits z no-segment = Unit {0}
+RunFits z (one-segment {payload = payload} g run) = (segmentLength (z .form) (length payload) ≤ z .segment) × RunFits z run
 
-abbrev pub Fits : (z : Lent) {bytes : List ℕ} {said : List Said} → Legal (z .form) bytes said → Type 0
-Fits z legal-end = Unit
-Fits z (legal-alone {payload = payload} g v others) = (segmentLength (z .form) (length payload) ≤ z .segment) × Fits z others
-Fits z (legal-run {payloads = payloads} g v others) = RunFits z g × (length payloads ≤ z .reassembly) × Fits z others
+abbrev pub Fits : (z : Lent) {taken : ℕ} {stream : List ℕ} {answers : List (Dated Said)} → Legal (z .form) taken stream answers → Type 0
+Fits z legal-end = Unit {0}
+Fits z (legal-alone {payload = payload} g v later) = (segmentLength (z .form) (length payload) ≤ z .segment) × Fits z later
+Fits z (legal-run {payloads = payloads} run v later) = RunFits z run × (length payloads ≤ z .reassembly) × Fits z later

@@ -5,9 +5,10 @@ use mathlib.Core.List.{List, []}
 use lib.Dec.{leb}
 use lib.ListN.{drop}
 use Rattle.basis.specs.Front.{Front, incomplete, refuses, whole}
+use Rattle.basis.specs.Machine.{refusedAfter, holding}
 use Rattle.segment.specs.Header.{Header, headerLength}
 use Rattle.segment.specs.Segment.{Segment, segmentLength, headerAt}
-use Rattle.stream.specs.Meaning.{Lent, Meaning, refusedAfter, holding, segmentIn, bySegment, meaningFrom}
+use Rattle.stream.specs.Meaning.{Lent, Meaning, held, segmentIn, bySegment, meaningFrom}
 
 -- with which of its bytes a segment is judged: the header's last where that is refused, else its own last
 abbrev pub lastOf : Lent → Front Header → ℕ
@@ -20,7 +21,7 @@ judgedAt z s = lastOf z (headerAt (z .form) s)
 
 -- by the first segment of the bytes to come: unfinished, they are held; refused, that is the end; whole, it says its envelopes, and the bytes behind it come next
 abbrev pub byFirst : Lent → Front Segment → ℕ → List ℕ → List ℕ → ℕ → Meaning
-byFirst z incomplete taken pending s n = holding s pending
+byFirst z incomplete taken pending s n = holding (held s pending)
 byFirst z (refuses number) taken pending s n = refusedAfter number (taken + n)
 byFirst z (whole g) taken pending s n = bySegment z (g .self) (g .payload) pending (taken + n) (λ unread. meaningFrom z (taken + n) unread [] (drop n s))
 

@@ -5,6 +5,7 @@ use mathlib.Core.List.{List, [], _∷_, _++_}
 use lib.ListN.{length, take, drop}
 use mir.Syntax.{w16}
 use mir.Val.{SFits}
+use Rattle.basis.specs.Machine.{Dated}
 use Rattle.types.specs.Answer.{got}
 use Rattle.types.specs.Write.{Wrote}
 use Rattle.segment.specs.Header.{Form}
@@ -49,11 +50,18 @@ pub data Sends (form : Form) : List ℕ → List Given → Type 0 where
   sends-pieces : {g : Given} {later : List Given} {envelope bytes others : List ℕ} → Written g envelope → InPieces form envelope bytes → Sends form others later
       → Sends form (bytes ++ others) (g ∷ later)
 
--- the reassembly buffer has room for each envelope that goes out in pieces
-abbrev pub PiecesFit : (z : Lent) {bytes : List ℕ} {gs : List Given} → Sends (z .form) bytes gs → Type 0
-PiecesFit z nothing-sent = Unit
-PiecesFit z (sends-packed ws added finished others) = PiecesFit z others
-PiecesFit z (sends-pieces {envelope = envelope} w ps others) = (length envelope ≤ z .reassembly) × PiecesFit z others
+-- ---- sizes that are enough for it
+
+-- the segment buffer for each segment
+abbrev pub PiecesFit : (z : Lent) {envelope bytes : List ℕ} → InPieces (z .form) envelope bytes → Type 0
+PiecesFit z all-out = Unit {0}
+PiecesFit z (one-out out {size = size} some p later) = (size ≤ z .segment) × PiecesFit z later
+
+-- and the reassembly buffer for each envelope that goes out in pieces
+abbrev pub SendsFit : (z : Lent) {bytes : List ℕ} {gs : List Given} → Sends (z .form) bytes gs → Type 0
+SendsFit z nothing-sent = Unit {0}
+SendsFit z (sends-packed {size = size} ws added finished later) = (size ≤ z .segment) × SendsFit z later
+SendsFit z (sends-pieces {envelope = envelope} w ps later) = PiecesFit z ps × (length envelope ≤ z .reassembly) × SendsFit z later
 
 -- ---- what comes back
 
@@ -65,10 +73,13 @@ pub record Back (bytes : List ℕ) (v : Envelope) (g : Given) : Type 0 where
   pub warnings : warningsIn bytes v ≡ textsPart (g .header) (g .content)
   pub body : bodyIn bytes v ≡ g .content .body
 
+abbrev pub SaidBack : Said → Given → Type 0
+SaidBack (envelopeOf buffer at bytes v) g = Back bytes v g
+SaidBack (leftoverOf n) g = ⊥
+
 -- each of the given, in order, and nothing else
-abbrev pub AllBack : List Said → List Given → Type 0
-AllBack [] [] = Unit
+abbrev pub AllBack : List (Dated Said) → List Given → Type 0
+AllBack [] [] = Unit {0}
 AllBack [] (g ∷ gs) = ⊥
-AllBack (x ∷ said) [] = ⊥
-AllBack (envelopeOf bytes v ∷ said) (g ∷ gs) = Back bytes v g × AllBack said gs
-AllBack (leftoverOf n ∷ said) (g ∷ gs) = ⊥
+AllBack (x ∷ answers) [] = ⊥
+AllBack (x ∷ answers) (g ∷ gs) = SaidBack (x .what) g × AllBack answers gs

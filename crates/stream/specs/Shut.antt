@@ -5,10 +5,13 @@ use mathlib.Core.Bool.{true, false}
 use mathlib.Core.List.{List, [], _∷_}
 use lib.IntN.{pos, negsuc}
 use lib.ListN.{drop}
+use Rattle.basis.specs.Machine.{Step, says, refusedAfter, holding}
 use Rattle.types.specs.Read.{Place, place, strings}
 use Rattle.frame.specs.Envelope.{Envelope}
 use Rattle.frame_decoder.specs.Reader.{Reader, Buffer, envelopeAt, more, refused}
 use Rattle.frame_decoder.specs.Call.{Outcome, call}
+use Rattle.stream.specs.Meaning.{Said, Meaning}
+use Rattle.stream.specs.Caller.{State, stepOf}
 
 -- a reader, as what its calls come to; and one that keeps the promise
 abbrev pub Reads : Type 0
@@ -16,6 +19,16 @@ Reads = Reader → List ℕ → List ℕ → List ℕ → Outcome
 
 abbrev pub Keeps : Reads → Type 0
 Keeps R = (r : Reader) (segment reassembly piece : List ℕ) → R r segment reassembly piece ≡ call r segment reassembly piece
+
+-- as a machine, whose caller adds up the bytes that it says it took
+abbrev pub machineOf : Reads → State → List ℕ → Step State Said ℕ
+machineOf R s piece = stepOf (R (s .reader) (s .segment) (s .reassembly) piece)
+
+-- after how many bytes the answers come, and a refusal
+abbrev pub datesOf : Meaning → List ℕ
+datesOf (says x m) = x .after ∷ datesOf m
+datesOf (refusedAfter number taken) = taken ∷ []
+datesOf (holding h) = []
 
 -- ---- wrong ones
 

@@ -7,6 +7,7 @@ use mathlib.Core.List.{List, [], _∷_, _++_}
 use mathlib.Core.Option.{Option, none, some}
 use lib.Dec.{leb, eqb}
 use lib.ListN.{length, take, drop}
+unfoldable pub use Rattle.basis.specs.Lists.{joined}
 use Rattle.types.specs.Answer.{Answer, got, refused}
 use Rattle.types.specs.Number.{digits}
 use Rattle.utf8.specs.Utf8.{utf8}
@@ -77,11 +78,7 @@ unfoldable pub cutBy : List ℕ → List ℕ → List (List ℕ)
 cutBy t [] = []
 cutBy t (n ∷ ns) = take n t ∷ cutBy (drop n t) ns
 
--- some texts as one text and a list of lengths
-unfoldable pub joined : List (List ℕ) → List ℕ
-joined [] = []
-joined (t ∷ ts) = t ++ joined ts
-
+-- some texts as one text, which is `joined` of `basis`, and a list of lengths
 unfoldable pub lengthsOf : List (List ℕ) → List ℕ
 lengthsOf [] = []
 lengthsOf (t ∷ ts) = length t ∷ lengthsOf ts

@@ -2,17 +2,18 @@
 -- What is known inside the crate of a reader on its way through a stream. Assumes nothing.
 use Prim.Native.Nat.{ℕ, _+_, _-_, _≤_, _<_}
 use mathlib.Core.Path.{_≡_}
-use mathlib.Core.List.{List, []}
+use mathlib.Core.List.{List, [], _∷_, _++_}
 use lib.ListN.{length, take, drop}
 use Rattle.basis.specs.Front.{whole}
+use Rattle.basis.specs.Machine.{Dated, refusedAfter, holding, Close, usedUp, refusedWith, Uses}
 use Rattle.types.specs.Number.{part}
 use Rattle.segment.specs.Header.{Form, header, headerLength}
 use Rattle.segment.specs.Segment.{headerAt}
-use Rattle.frame_decoder.specs.Reader.{Phase, inHeader, inRest, inSegment, inReassembly, stopped, Reader, minReassembly}
+use Rattle.frame_decoder.specs.Reader.{Phase, inHeader, inRest, inSegment, inReassembly, stopped, Reader, segmentBuffer, reassemblyBuffer, minReassembly}
 use Rattle.frame_decoder.specs.Private.Inside.{Admitted, wanted}
-use Rattle.stream.specs.Meaning.{Lent, lent, Meaning, refusedAfter, segmentIn, envelopesIn, dropping, judged, meaningFrom}
-use Rattle.stream.specs.Caller.{Leaves, undelivered}
-use Rattle.stream.specs.Collect.{Tape, collected, Ending, endOf}
+use Rattle.stream.specs.Meaning.{Lent, lent, Said, Meaning, segmentIn, envelopesIn, dropping, judged, meaningFrom}
+use Rattle.stream.specs.Caller.{State, state, reads, holds, undelivered}
+use Rattle.stream.specs.Collect.{bytesOf, markOf, Tape, noted, Ending, refusedEnd, endOf}
 
 abbrev pub lentOf : Reader → Lent
 lentOf r = lent (r .form) (r .segment) (r .reassembly)
@@ -28,12 +29,13 @@ abbrev pub restAt : Lent → ℕ → Phase → List ℕ → List ℕ → ℕ →
 restAt z pending (inHeader n) seg re taken stream = judging z (take pending re) (take n seg) taken stream
 restAt z pending (inRest n len self) seg re taken stream = judging z (take pending re) (take n seg) taken stream
 restAt z pending (inSegment len at) seg re taken stream =
-    envelopesIn 0 (part seg (headerLength (z .form) + at) (len - at)) taken (λ unread. dropping unread (meaningFrom z taken (take pending re) [] stream))
-restAt z pending (inReassembly at) seg re taken stream = envelopesIn 0 (part re at (pending - at)) taken (λ unread. meaningFrom z taken unread [] stream)
+    envelopesIn taken segmentBuffer (headerLength (z .form) + at) 0 (part seg (headerLength (z .form) + at) (len - at))
+    (λ unread. dropping taken unread (meaningFrom z taken (take pending re) [] stream))
+restAt z pending (inReassembly at) seg re taken stream = envelopesIn taken reassemblyBuffer at 0 (part re at (pending - at)) (λ unread. meaningFrom z taken unread [] stream)
 restAt z pending (stopped number) seg re taken stream = refusedAfter number taken
 
-abbrev pub rest : Reader → List ℕ → List ℕ → ℕ → List ℕ → Meaning
-rest r seg re taken stream = restAt (lentOf r) (r .pending) (r .phase) seg re taken stream
+abbrev pub rest : State → ℕ → List ℕ → Meaning
+rest s taken stream = restAt (lentOf (s .reader)) (s .reader .pending) (s .reader .phase) (s .segment) (s .reassembly) taken stream
 
 -- ---- readers that a caller has left untouched
 
@@ -45,55 +47,68 @@ Agrees form (inSegment len at) seg = Unit
 Agrees form (inReassembly at) seg = Unit
 Agrees form (stopped number) seg = Unit
 
+abbrev pub Untouched : State → Type 0
+Untouched s = Agrees (s .reader .form) (s .reader .phase) (s .segment)
+
 -- over these buffers it is not refused with 1
-pub record Ready (r : Reader) (seg re : List ℕ) : Type 0 where
-  pub segment : length seg ≡ r .segment
-  pub reassembly : length re ≡ r .reassembly
-  pub least : minReassembly ≤ length re
-  pub ok : Admitted r (length seg) (length re)
+pub record Ready (s : State) : Type 0 where
+  pub segment : length (s .segment) ≡ s .reader .segment
+  pub reassembly : length (s .reassembly) ≡ s .reader .reassembly
+  pub least : minReassembly ≤ length (s .reassembly)
+  pub ok : Admitted (s .reader) (length (s .segment)) (length (s .reassembly))
+
+-- bytes are wanting
+abbrev pub Wants : State → Type 0
+Wants s = 0 < wanted (s .reader .form) (s .reader .phase)
+
+abbrev pub ahead : State → ℕ
+ahead s = undelivered (s .reader .pending) (s .reader .phase)
 
 -- ---- a caller on its way through a stream
 
 -- a reader and what its buffers hold, how many bytes were taken, and what was written down
 pub record Way : Type 0 where
-  pub reader : Reader
-  pub segment : List ℕ
-  pub reassembly : List ℕ
+  pub at : State
   pub taken : ℕ
   pub tape : Tape
 
--- what it will hear
-abbrev pub toHear : List ℕ → Way → Meaning
-toHear stream w = rest (w .reader) (w .segment) (w .reassembly) (w .taken) (drop (w .taken) stream)
-
--- what it will leave
-abbrev pub WillLeave : List ℕ → Way → List ℕ → List ℕ → Type 0
-WillLeave stream w = Leaves (w .reader) (w .segment) (w .reassembly) (drop (w .taken) stream)
-
 pub record Going (stream : List ℕ) (w : Way) : Type 0 where
-  pub ready : Ready (w .reader) (w .segment) (w .reassembly)
-  pub agrees : Agrees (w .reader .form) (w .reader .phase) (w .segment)
+  pub ready : Ready (w .at)
+  pub untouched : Untouched (w .at)
   pub within : w .taken ≤ length stream
 
--- further on, it will have heard, written down and left the same
+-- all of it is given as one piece
+abbrev pub Gives : List ℕ → Way → List (Dated Said) → Close ℕ → ℕ → State → Type 0
+Gives stream w = Uses reads (w .at) (w .taken) (drop (w .taken) stream)
+
+-- answers are written down one after the other
+abbrev pub notedAll : List (Dated Said) → Tape → Tape
+notedAll [] t = t
+notedAll (x ∷ xs) t = notedAll xs (noted (bytesOf (x .what)) (markOf (x .what)) t)
+
+-- from there to here these were handed on and written down; so what is to come there is these, and then what is to come here
 pub record Onward (stream : List ℕ) (w v : Way) : Type 0 where
-  pub tells : collected (toHear stream v) (v .tape) ≡ collected (toHear stream w) (w .tape)
-  pub ends : endOf (toHear stream v) ≡ endOf (toHear stream w)
-  pub leaves : (S R : List ℕ) → WillLeave stream v S R → WillLeave stream w S R
+  pub handed : List (Dated Said)
+  pub notes : v .tape ≡ notedAll handed (w .tape)
+  pub gives : (xs : List (Dated Said)) (c : Close ℕ) (end : ℕ) (t : State) → Gives stream v xs c end t → Gives stream w (handed ++ xs) c end t
+
+abbrev pub endingOf : Close ℕ → ℕ → State → Ending
+endingOf usedUp end s = endOf (holding (holds s))
+endingOf (refusedWith number) end s = refusedEnd number end
 
 -- it has come to its end with this written down, this end, and this in the buffers
 pub record Over (stream : List ℕ) (w : Way) (t : Tape) (e : Ending) (S R : List ℕ) : Type 0 where
-  pub tells : t ≡ collected (toHear stream w) (w .tape)
-  pub ends : e ≡ endOf (toHear stream w)
-  pub leaves : WillLeave stream w S R
-
--- bytes are wanting
-abbrev pub Wants : Way → Type 0
-Wants w = 0 < wanted (w .reader .form) (w .reader .phase)
+  pub handed : List (Dated Said)
+  pub close : Close ℕ
+  pub taken : ℕ
+  pub reader : Reader
+  pub gives : Gives stream w handed close taken (state reader S R)
+  pub notes : t ≡ notedAll handed (w .tape)
+  pub ends : e ≡ endingOf close taken (state reader S R)
 
 -- at most so many answers come before the piece that ends there is used up
 abbrev pub leftTo : ℕ → Way → ℕ
-leftTo end w = undelivered (w .reader .pending) (w .reader .phase) + (end - w .taken)
+leftTo end w = ahead (w .at) + (end - w .taken)
 
 -- how many bytes of an unfinished segment are there
 abbrev pub filledOf : Phase → ℕ

@@ -4,6 +4,7 @@ use Prim.Native.Nat.{ℕ, _≤_, _<_}
 use mathlib.Core.Path.{_≡_}
 use mathlib.Core.List.{List}
 use Rattle.frame_decoder.specs.Paper.{paperReader}
+use Rattle.stream.specs.Caller.{state}
 use Rattle.stream.specs.Paper.{tapeOf, paperEnd}
 use Rattle.stream.specs.Private.Inside.{Way, Going, Onward, Over, Wants, leftTo}
 use Rattle.stream.specs.declared.Collected.{Collected}
@@ -13,7 +14,7 @@ use Rattle.stream.specs.declared.Used.{Used}
 
 abbrev pub wayOf : Progress → List ℕ → List ℕ → List ℕ → List ℕ → Way
 wayOf p segment reassembly envelopes marks =
-    record { reader = paperReader (p .reader); segment = segment; reassembly = reassembly; taken = p .taken; tape = tapeOf (p .notes) envelopes marks }
+    record { at = state (paperReader (p .reader)) segment reassembly; taken = p .taken; tape = tapeOf (p .notes) envelopes marks }
 
 -- all is heard
 abbrev pub AllHeard : Collected → List ℕ → Way → List ℕ → List ℕ → List ℕ → List ℕ → Type 0
@@ -23,7 +24,7 @@ AllHeard c stream w segment reassembly envelopes marks = Over stream w (tapeOf (
 pub record PieceUsed (stream : List ℕ) (end : ℕ) (w v : Way) : Type 0 where
   pub going : Going stream v
   pub all : v .taken ≡ end
-  pub wants : Wants v
+  pub wants : Wants (v .at)
   pub onward : Onward stream w v
 
 pub record Answered (stream : List ℕ) (end : ℕ) (w v : Way) : Type 0 where
