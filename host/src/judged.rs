@@ -65,14 +65,6 @@ mod exported {
             said: *mut usize,
             words: usize,
         );
-        pub fn judged_next_warning(
-            bytes: *const u8,
-            len: usize,
-            left: u16,
-            at: usize,
-            said: *mut usize,
-            words: usize,
-        );
         pub fn judged_part(
             bytes: *const u8,
             bytes_len: usize,
@@ -538,21 +530,11 @@ fn walked(said: &Said) -> Walked {
     }
 }
 
-type Next = unsafe extern "C" fn(*const u8, usize, u16, usize, *mut usize, usize);
-
-fn next_by(call: Next, bytes: &[u8], walk: Walk) -> Walked {
+pub fn next_string(bytes: &[u8], walk: Walk) -> Walked {
     let (b, len) = (bytes.as_ptr(), bytes.len());
     walked(&said_by(|said, n| unsafe {
-        call(b, len, walk.left, walk.at, said, n)
+        judged_next(b, len, walk.left, walk.at, said, n)
     }))
-}
-
-pub fn next_string(bytes: &[u8], walk: Walk) -> Walked {
-    next_by(judged_next, bytes, walk)
-}
-
-pub fn next_warning(bytes: &[u8], walk: Walk) -> Walked {
-    next_by(judged_next_warning, bytes, walk)
 }
 
 pub fn part(bytes: &[u8], place: Place) -> Vec<u8> {

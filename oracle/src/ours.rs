@@ -2,13 +2,11 @@
 use crate::judged::{self, Answer, Form, Parsed as Read, Reader, Reading, Walked};
 use crate::said::{Envelope, Outcome, Parsed};
 
-type Next = fn(&[u8], judged::Walk) -> Walked;
-
 /// The texts of a list, each by the call that steps through it.
-fn texts(bytes: &[u8], from: judged::Walk, next: Next) -> Vec<Vec<u8>> {
+fn texts(bytes: &[u8], from: judged::Walk) -> Vec<Vec<u8>> {
     let (mut walk, mut out) = (from, vec![]);
     loop {
-        match next(bytes, walk) {
+        match judged::next_string(bytes, walk) {
             Walked::Text(place, rest) => {
                 out.push(judged::part(bytes, place));
                 walk = rest;
@@ -29,7 +27,7 @@ fn plain(bytes: &[u8], reading: &Reading) -> Envelope {
         stream: reading.stream,
         opcode: reading.opcode,
         id: reading.tracing_id(bytes).try_into().ok(),
-        warnings: texts(bytes, reading.warnings, judged::next_warning),
+        warnings: texts(bytes, reading.warnings),
         body: reading.body(bytes),
     }
 }
@@ -54,9 +52,7 @@ pub fn size(bytes: &[u8]) -> Outcome<usize> {
 
 pub fn string_list(bytes: &[u8]) -> Outcome<(Vec<Vec<u8>>, usize)> {
     match judged::notation(judged::Notation::StringList, bytes, 0) {
-        (judged::Noted::List(walk), next) => {
-            Outcome::Gave((texts(bytes, walk, judged::next_string), next))
-        }
+        (judged::Noted::List(walk), next) => Outcome::Gave((texts(bytes, walk), next)),
         (judged::Noted::Refused(number), _) => Outcome::Refused(number),
         _ => Outcome::Panicked,
     }

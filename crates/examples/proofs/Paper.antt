@@ -11,7 +11,7 @@ use Rattle.types.specs.Number.{be, beFrom}
 use Rattle.types.specs.Read.{place, strings, bytesIn, numberAt, runAt, textAt, stringAt, stringsAt, textsIn, listed, stringListAt}
 use Rattle.utf8.specs.Utf8.{begin, step, after, utf8}
 use Rattle.segment.specs.LittleEndian.{leDigits}
-use Rattle.segment.specs.Header.{short, long, numberOf, headerNumber}
+use Rattle.segment.specs.Header.{short, long, numberOf, headerNumber, headerBytes}
 use Rattle.frame.specs.Header.{headerOf, knownVersion, knownOpcode, hasId, hasWarnings}
 use Rattle.frame.specs.Envelope.{declared, sized, sizeOf, afterId, warningsAt, within, inside, envelope, idIn, bodyIn, warningsIn}
 use Rattle.examples.specs.Example.{seen, Example, header-of, crc24-of, front-of, Shown, begins, check, reads, shown}
@@ -19,9 +19,9 @@ use Rattle.examples.specs.Example.{seen, Example, header-of, crc24-of, f
 -- whatever the fifteen bytes of P11 are
 pub examples : (b₁ b₂ b₃ b₄ b₅ b₆ b₇ b₈ b₉ b₁₀ b₁₁ b₁₂ b₁₃ b₁₄ b₁₅ : ℕ) →
     map shown
-    (header-of short 0 true
-    ∷ header-of short 131071 false
-    ∷ header-of long 5 true
+    (header-of 3 short 0 true
+    ∷ header-of 3 short 131071 false
+    ∷ header-of 5 long 5 true
     ∷ crc24-of []
     ∷ front-of (0x05 ∷ 0x00 ∷ 0x00 ∷ 0x01 ∷ 0x05 ∷ 0x00 ∷ 0x00 ∷ 0x00 ∷ 0x00 ∷ [])
     ∷ front-of (0x85 ∷ 0x00 ∷ 0xff ∷ 0xff ∷ 0x0c ∷ 0x00 ∷ 0x00 ∷ 0x00 ∷ 0x00 ∷ [])
@@ -86,5 +86,5 @@ pub examples : (b₁ b₂ b₃ b₄ b₅ b₆ b₇ b₈ b₉ b₁₀ b₁₁ b�
     }))
     ∷ reads (refuses 13)
     ∷ []
-unfolding shown seen envelope sizeOf sized declared headerOf knownVersion knownOpcode hasId hasWarnings afterId warningsAt within inside idIn bodyIn warningsIn be beFrom bytesIn numberAt runAt textAt stringAt stringsAt textsIn listed stringListAt utf8 after step begin leDigits numberOf headerNumber crc24 run
+unfolding shown seen envelope sizeOf sized declared headerOf knownVersion knownOpcode hasId hasWarnings afterId warningsAt within inside idIn bodyIn warningsIn be beFrom bytesIn numberAt runAt textAt stringAt stringsAt textsIn listed stringListAt utf8 after step begin leDigits numberOf headerNumber headerBytes crc24 run
 examples b₁ b₂ b₃ b₄ b₅ b₆ b₇ b₈ b₉ b₁₀ b₁₁ b₁₂ b₁₃ b₁₄ b₁₅ = refl

@@ -2,9 +2,10 @@
 use Prim.Native.Nat.{ℕ}
 use mathlib.Core.Bool.{Bool}
 use mathlib.Core.List.{List}
+use lib.ListN.{take}
 use Rattle.basis.specs.Front.{Front, whole, ifWhole}
 use Rattle.crc.specs.Check24.{crc24}
-use Rattle.segment.specs.Header.{Form, header, headerNumber}
+use Rattle.segment.specs.Header.{Form, header, headerBytes}
 use Rattle.frame.specs.Envelope.{Envelope, envelope, idIn, bodyIn, warningsIn}
 
 -- an envelope, its tracing id, its warnings and its body
@@ -18,8 +19,8 @@ unfoldable pub seen : List ℕ → Front Seen
 seen s = ifWhole (envelope s) (λ e. whole (record { envelope = e; id = idIn s e; warnings = warningsIn s e; body = bodyIn s e }))
 
 pub data Example : Type 0 where
-  -- the bytes that a header with this payload length begins with
-  header-of : Form → ℕ → Bool → Example
+  -- the first bytes, so many, of a header with this payload length
+  header-of : ℕ → Form → ℕ → Bool → Example
   crc24-of : List ℕ → Example
   front-of : List ℕ → Example
 
@@ -29,6 +30,6 @@ pub data Shown : Type 0 where
   reads : Front Seen → Shown
 
 unfoldable pub shown : Example → Shown
-shown (header-of form payload self) = begins (headerNumber form (header payload 0 self))
+shown (header-of n form payload self) = begins (take n (headerBytes form (header payload 0 self)))
 shown (crc24-of s) = check (crc24 s)
 shown (front-of s) = reads (seen s)

@@ -24,6 +24,10 @@ capped-most n =
       | no h ↦ omega (arith, capped-large (lt-of-not-le h))
     ]
 
+-- so a number that is a capped one is no larger
+pub capped-bound : {r : ℕ} (n : ℕ) → r ≡ capped n → r ≤ maxBody + 1
+capped-bound n e = omega (arith, e, capped-most n)
+
 pub capped-plus : (a b : ℕ) → capped (capped a + b) ≡ capped (a + b)
 capped-plus a b =
     elim (decLe a maxBody) [

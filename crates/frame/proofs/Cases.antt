@@ -33,16 +33,13 @@ module _ (s : List ℕ) where
   unfolding sized
   judged {n} e h =
       let nine : 9 ≤ length s = omega arith in
-      from-nine nine
-      ∙ ap (sized s) e
-      ∙ ap (λ t. cond t incomplete (cond (knownVersion (headerOf s .version)) (whole (9 + n)) (refuses 9))) (le-ltb (length s) (9 + n) h)
+      from-nine nine ∙ ap (sized s) e ∙ rw (le-ltb (length s) (9 + n) h)
 
   pub size-is : {f : Front ℕ} → Sizes s f → sizeOf s ≡ f
   unfolding sized sizeOf
   size-is (short h) = ap (λ t. cond t incomplete (sized s (declared s))) (lt-ltb (length s) 9 h)
   size-is (negative h e) = from-nine h ∙ ap (sized s) e
-  size-is (cut {n} h e l) =
-      from-nine h ∙ ap (sized s) e ∙ ap (λ t. cond t incomplete (cond (knownVersion (headerOf s .version)) (whole (9 + n)) (refuses 9))) (lt-ltb (length s) (9 + n) l)
+  size-is (cut {n} h e l) = from-nine h ∙ ap (sized s) e ∙ rw (lt-ltb (length s) (9 + n) l)
   size-is (unknown {n} e h v) = judged e h ∙ ap (λ t. cond t (whole (9 + n)) (refuses 9)) v
   size-is (fits {n} e h v) = judged e h ∙ ap (λ t. cond t (whole (9 + n)) (refuses 9)) v
 

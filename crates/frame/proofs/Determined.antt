@@ -2,10 +2,8 @@
 -- Assumes nothing.
 use Rattle.basis.specs.Determined.{Determined, DeterminedAs}
 use Rattle.basis.proofs.Determined.{by-equation, by-sight, by-meaning}
-use Rattle.types.specs.Read.{bytesIn, stepAt}
 use Rattle.types.proofs.Determined.{Outcome, by-wrote}
-use Rattle.types.proofs.Told.{walked-told}
-use Rattle.frame.specs.Envelope.{sizeOf, sizeNumber, idPlace, envelope}
+use Rattle.frame.specs.Envelope.{sizeOf, sizeNumber, envelope, idIn, bodyIn}
 use Rattle.frame.specs.Paper.{paperHeader, paperEnvelope}
 use Rattle.frame.specs.Write.{content, envelopeBytes, envelopeCheck}
 use Rattle.frame.proofs.Told.{size-told, reading-told}
@@ -14,7 +12,6 @@ use Rattle.frame.proofs.read.check_envelope_size.Reads as checks
 use Rattle.frame.proofs.read.read_envelope.Reads as reads
 use Rattle.frame.proofs.read.body.Reads as bodies
 use Rattle.frame.proofs.read.tracing_id.Reads as ids
-use Rattle.frame.proofs.read.next_warning.Reads as walks
 use Rattle.frame.proofs.write.write_envelope.Reads as writes
 
 pub envelope-size-determined : Determined sizes.Post
@@ -27,13 +24,10 @@ pub read-envelope-determined : Determined reads.Post
 read-envelope-determined = by-meaning reading-told (λ κs a. envelope (a .0 .now))
 
 pub body-determined : DeterminedAs (λ κs r e. r .now) bodies.Post
-body-determined = by-sight (λ κs r e. r .now) (λ κs a. bytesIn (a .0 .now) (paperEnvelope (a .1 .0) .body))
+body-determined = by-sight (λ κs r e. r .now) (λ κs a. bodyIn (a .0 .now) (paperEnvelope (a .1 .0)))
 
 pub tracing-id-determined : DeterminedAs (λ κs r e. r .now) ids.Post
-tracing-id-determined = by-sight (λ κs r e. r .now) (λ κs a. bytesIn (a .0 .now) (idPlace (a .1 .0 .traced)))
-
-pub next-warning-determined : Determined walks.Post
-next-warning-determined = by-meaning walked-told (λ κs a. stepAt (a .0 .now) (a .1 .0 .left) (a .1 .0 .at))
+tracing-id-determined = by-sight (λ κs r e. r .now) (λ κs a. idIn (a .0 .now) (paperEnvelope (a .1 .0)))
 
 pub write-envelope-determined : DeterminedAs {Seen = Outcome} (λ κs r e. (r, e .0 .now)) writes.Post
 write-envelope-determined =

@@ -50,7 +50,7 @@ pub enum Size {
 }
 
 // An envelope as it was read. Its places are counted from its first byte: they are the same wherever it stands. If it is traced, its tracing id stands
-// behind the header.
+// behind the header. Its warnings are walked along as any strings are, by `types::read::next_string`.
 pub struct Envelope {
     pub size: usize,
     pub header: Header,

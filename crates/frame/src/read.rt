@@ -5,10 +5,9 @@ ghost use Prim.Native.Nat.{_≤_};
 ghost use lib.IntN.{pos, negℤ};
 ghost use lib.ListN.{length};
 ghost use Rattle.refusal.specs.Refusal.{numberOf};
-ghost use Rattle.types.specs.Paper.{stringsOf, paperWalked};
-ghost use Rattle.types.specs.Read.{bytesIn, stepAt};
+ghost use Rattle.types.specs.Paper.{stringsOf};
 ghost use Rattle.frame.specs.Header.{idLength};
-ghost use Rattle.frame.specs.Envelope.{sizeOf, sizeNumber, idPlace, afterId, warningsAt, envelopeWith, readAs, inside, envelope};
+ghost use Rattle.frame.specs.Envelope.{sizeOf, sizeNumber, afterId, warningsAt, envelopeWith, readAs, inside, envelope, idIn, bodyIn};
 ghost use Rattle.frame.specs.Paper.{paperHeader, paperEnvelope, paperSize, paperReading};
 ghost use Rattle.frame.specs.Private.Inside.{paperWarnings};
 use crate::Envelope;
@@ -22,7 +21,6 @@ use refusal::Refusal;
 use types::Place;
 use types::ReadStrings;
 use types::Walk;
-use types::Walked;
 use types::inner;
 use types::read;
 
@@ -172,14 +170,14 @@ pub fn read_envelope(bytes: &[u8]) -> Reading
 
 // The body of an envelope that begins with the first of the bytes, without tracing id and warnings.
 pub fn body<'a>(bytes: &'a [u8], envelope: Envelope) -> &'a [u8]
-    ensures { λ r. ⌜ now r ≡ bytesIn (now (bytes .entry)) (paperEnvelope envelope .body) ⌝ }
+    ensures { λ r. ⌜ now r ≡ bodyIn (now (bytes .entry)) (paperEnvelope envelope) ⌝ }
 {
     types::part(bytes, envelope.body)
 }
 
 // Its tracing id, and an empty part where it has none.
 pub fn tracing_id<'a>(bytes: &'a [u8], envelope: Envelope) -> &'a [u8]
-    ensures { λ r. ⌜ now r ≡ bytesIn (now (bytes .entry)) (idPlace (envelope .traced)) ⌝ }
+    ensures { λ r. ⌜ now r ≡ idIn (now (bytes .entry)) (paperEnvelope envelope) ⌝ }
 {
     let traced = envelope.traced;
     let len = id_len(traced);
@@ -188,11 +186,4 @@ pub fn tracing_id<'a>(bytes: &'a [u8], envelope: Envelope) -> &'a [u8]
         len,
     };
     types::part(bytes, place)
-}
-
-// The next of its warnings: a walk begins with `envelope.warnings`.
-pub fn next_warning(bytes: &[u8], walk: Walk) -> Walked
-    ensures { λ r. ⌜ paperWalked r ≡ stepAt (now (bytes .entry)) (walk .left) (walk .at) ⌝ }
-{
-    read::next_string(bytes, walk)
 }

@@ -98,7 +98,7 @@ fn put_text(said: &mut [usize], place: Place, walk: Walk) {
 }
 
 // A part, with the number of strings left in word 4, or 3 at the end.
-pub fn put_walked(said: &mut [usize], walked: Walked) {
+fn put_walked(said: &mut [usize], walked: Walked) {
     match walked {
         Walked::Text(place, walk) => put_text(said, place, walk),
         Walked::End(next) => put_said(said, 3, 0, 0, next),

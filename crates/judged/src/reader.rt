@@ -1,5 +1,4 @@
 // Envelopes and streams.
-use crate::notation;
 use crate::words;
 use frame::Direction;
 use frame::Envelope;
@@ -122,12 +121,6 @@ pub extern "C" fn judged_body(bytes: &[u8], said: &[usize], out: &mut [u8]) -> u
 #[no_mangle]
 pub extern "C" fn judged_tracing_id(bytes: &[u8], said: &[usize], out: &mut [u8]) -> usize {
     words::copy(out, read::tracing_id(bytes, envelope(said)))
-}
-
-// The next of an envelope's warnings of which so many are left.
-#[no_mangle]
-pub extern "C" fn judged_next_warning(bytes: &[u8], left: u16, at: usize, said: &mut [usize]) {
-    notation::put_walked(said, read::next_warning(bytes, Walk { left, at }));
 }
 
 fn buffer(word: usize) -> Buffer {

@@ -35,7 +35,7 @@ fn walk(bytes: &[u8], from: Walk) {
     let mut at = from;
     let mut met: usize = 0;
     while met < 65_536 {
-        let Walked::Text(place, rest) = read::next_warning(bytes, at) else {
+        let Walked::Text(place, rest) = types::read::next_string(bytes, at) else {
             return;
         };
         text(types::part(bytes, place));

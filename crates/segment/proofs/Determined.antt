@@ -1,7 +1,11 @@
--- Each public function's contract leaves nothing open: a line for each. Assumes nothing.
-use Rattle.basis.specs.Determined.{Determined}
-use Rattle.basis.proofs.Determined.{by-equation, by-meaning}
-use Rattle.segment.specs.Header.{numberLength, headerLength, fieldsOf, numberOf}
+-- Each public function's contract leaves nothing open: a line for each. Of the writers, what the output then holds.
+-- Assumes nothing.
+use mathlib.Core.Path.{sym, _∙_}
+use Rattle.basis.specs.Determined.{Determined, DeterminedAs}
+use Rattle.basis.proofs.Determined.{by-equation, by-sight, by-meaning}
+use Rattle.types.specs.Write.{put}
+use Rattle.segment.specs.LittleEndian.{leDigits}
+use Rattle.segment.specs.Header.{numberLength, headerLength, fieldsOf, numberOf, headerBytes}
 use Rattle.segment.specs.Segment.{headerAt}
 use Rattle.segment.specs.Paper.{paperForm, paperHeader}
 use Rattle.segment.proofs.Told.{header-told, read-header-told}
@@ -10,6 +14,9 @@ use Rattle.segment.proofs.header_len.Reads as header-lengths
 use Rattle.segment.proofs.fields.Reads as fields
 use Rattle.segment.proofs.number.Reads as numbers
 use Rattle.segment.proofs.read_header.Reads as reads
+use Rattle.segment.proofs.inner.number.Reads as inner-numbers
+use Rattle.segment.proofs.inner.put_number.Reads as puts-number
+use Rattle.segment.proofs.inner.put_header.Reads as puts-header
 
 pub number-len-determined : Determined number-lengths.Post
 number-len-determined = by-equation (λ κs a. numberLength (paperForm (a .0)))
@@ -25,3 +32,14 @@ number-determined = by-equation (λ κs a. numberOf (paperForm (a .0)) (paperHea
 
 pub read-header-determined : Determined reads.Post
 read-header-determined = by-meaning read-header-told (λ κs a. headerAt (paperForm (a .0)) (a .1 .0 .now))
+
+-- ---- the module `inner`
+
+pub inner-number-determined : Determined inner-numbers.Post
+inner-number-determined = record { same = λ κs a r s e f p q. p .0 ∙ sym (q .0) }
+
+pub put-number-determined : DeterminedAs (λ κs r e. e .0 .now) puts-number.Post
+put-number-determined = by-sight (λ κs r e. e .0 .now) (λ κs a. put (a .0 .now) (a .1 .0) (leDigits (a .1 .1 .0) (a .1 .1 .1 .0)))
+
+pub put-header-determined : DeterminedAs (λ κs r e. e .0 .now) puts-header.Post
+put-header-determined = by-sight (λ κs r e. e .0 .now) (λ κs a. put (a .0 .now) 0 (headerBytes (paperForm (a .1 .0)) (paperHeader (a .1 .1 .0))))

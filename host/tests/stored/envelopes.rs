@@ -19,9 +19,7 @@ fn warnings(bytes: &[u8], envelope: &Reading) -> String {
     if envelope.flags & WARNING == 0 {
         return format!("{}", walk.left);
     }
-    let texts = say::walk(bytes, walk, judged::next_warning, |place| {
-        spelt(&judged::part(bytes, place))
-    });
+    let texts = say::walk(bytes, walk, |place| spelt(&judged::part(bytes, place)));
     format!("{} from {}{texts}", walk.left, walk.at)
 }
 

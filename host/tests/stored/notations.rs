@@ -56,7 +56,7 @@ fn read(kind: Notation, bytes: &[u8], at: usize) -> String {
         Noted::Null => format!("null next {next}"),
         Noted::List(walk) => {
             let Walk { left, at } = walk;
-            let texts = say::walk(bytes, walk, judged::next_string, say::place);
+            let texts = say::walk(bytes, walk, say::place);
             format!("strings {left} from {at} next {next}{texts}")
         }
     }
@@ -64,7 +64,7 @@ fn read(kind: Notation, bytes: &[u8], at: usize) -> String {
 
 fn walk(left: usize, at: usize, bytes: &[u8]) -> Option<String> {
     let left = u16::try_from(left).ok()?;
-    let texts = say::walk(bytes, Walk { left, at }, judged::next_string, say::place);
+    let texts = say::walk(bytes, Walk { left, at }, say::place);
     Some(format!("walked{texts}"))
 }
 

@@ -1,6 +1,6 @@
 //! The words of an answer.
 
-use tanglegoose_host::judged::{Place, Reading, Walk, Walked};
+use tanglegoose_host::judged::{self, Place, Reading, Walk, Walked};
 
 fn run(bytes: &[u8]) -> String {
     match bytes.len() {
@@ -43,15 +43,10 @@ pub fn header(envelope: &Reading) -> String {
 }
 
 /// The texts of a walk by the call that steps through it, the first 20 and that there are more, and how it ended. No walk has more than 65,535 texts, so the turns suffice.
-pub fn walk(
-    bytes: &[u8],
-    from: Walk,
-    next: fn(&[u8], Walk) -> Walked,
-    show: impl Fn(Place) -> String,
-) -> String {
+pub fn walk(bytes: &[u8], from: Walk, show: impl Fn(Place) -> String) -> String {
     let (mut said, mut at) = (String::new(), from);
     for met in 0..65_536 {
-        match next(bytes, at) {
+        match judged::next_string(bytes, at) {
             Walked::Text(place, rest) => {
                 match met {
                     0..=19 => said += &format!(" {}", show(place)),

@@ -2,11 +2,13 @@
 use Prim.Native.Nat.{ℕ}
 use mathlib.Core.Path.{ap, _∙_}
 use Rattle.types.specs.Read.{place, bytesIn}
+use Rattle.frame.specs.Envelope.{idIn}
 use borrow.Author.Needs.{needs}
 use Rattle.frame.proofs.read.tracing_id.Statement.{statement}
 use Rattle.frame.proofs.read.tracing_id.Tie as tie
 
 pub tracing-id-spec : {M : Type 1} → statement M
+unfolding idIn
 tracing-id-spec =
     tie.close
     (tie.spec

@@ -1,10 +1,9 @@
 -- `frame::write::tail_size` meets its contract: the parts one after the other. Assumes nothing.
 use Prim.Native.Nat.{ℕ, _+_}
 use mathlib.Core.Path.{ap, ap₂, _∙_}
-use native.Mathlib.Omega.{arith}
 use Rattle.frame.specs.Private.Inside.{capped, idSize, warningsSize}
 use Rattle.frame.specs.Paper.{paperHeader}
-use Rattle.frame.proofs.Capped.{capped-most, capped-plus}
+use Rattle.frame.proofs.Capped.{capped-bound, capped-plus}
 use borrow.Author.Needs.{needs}
 use Rattle.frame.proofs.write.tail_size.Statement.{statement}
 use Rattle.frame.proofs.write.tail_size.Tie as tie
@@ -15,10 +14,8 @@ tail-size-spec =
     (tie.spec
     (λ c κs. search needs)
     (λ c κs. search needs)
-    (λ c κs.
-    let a = c .before .before .args in
-    omega (arith, c .before .warnings-size .ensures, capped-most (warningsSize (paperHeader (a .header)) (a .text) (a .count))))
-    (λ c κs. omega (arith, c .plus .ensures, capped-most (c .before .before .warnings-size .result + c .before .id-size .result)))
+    (λ c κs. capped-bound _ (c .before .warnings-size .ensures))
+    (λ c κs. capped-bound _ (c .plus .ensures))
     (λ c.
     let one = c .before in
     let id = one .before in

@@ -4,7 +4,7 @@ use mathlib.Core.Path.{sym, ap, _∙_}
 use mathlib.Core.Bool.{Bool, cond}
 use native.Mathlib.Omega.{arith}
 use Rattle.frame.specs.Private.Inside.{capped}
-use Rattle.frame.proofs.Capped.{capped-small, capped-most, capped-plus}
+use Rattle.frame.proofs.Capped.{capped-small, capped-bound, capped-plus}
 use borrow.Author.Needs.{needs}
 use Rattle.frame.proofs.write.warnings_size.Statement.{statement}
 use Rattle.frame.proofs.write.warnings_size.Tie as tie
@@ -15,10 +15,8 @@ warnings-size-spec =
     (tie.spec
     (λ c κs. search needs)
     (λ c κs. search needs)
-    (λ c κs.
-    let a = c .before .before .before .args in
-    omega (arith, c .plus .ensures, capped-most (2 + a .count)))
-    (λ c κs. omega (arith, c .plus2 .ensures, capped-most (c .before .plus .result + c .before .before .before .before .args .count)))
+    (λ c κs. capped-bound _ (c .plus .ensures))
+    (λ c κs. capped-bound _ (c .plus2 .ensures))
     (λ c.
     let two = c .before in
     let one = two .before in

@@ -1,6 +1,7 @@
 -- `frame::write::write_envelope` meets its contract: the checks in their order, and then the room. Assumes nothing.
 use Prim.Native.Nat.{ℕ, _≤_, _<_}
 use mathlib.Core.Path.{sym, ap, _∙_, subst}
+use native.Mathlib.Omega.{arith}
 use Rattle.types.specs.Paper.{paperWritable}
 use Rattle.types.proofs.Put.{wrote-fine, wrote-against}
 use Rattle.frame.specs.Write.{content, maxBody}
@@ -26,7 +27,7 @@ write-envelope-spec =
     let d = content (a .id .now) (a .text .now) (a .lens .now) (a .body .now) in
     let head = sym (c .before .before .before .before .before .before .before .head-fits .ensures) ∙ c .before .before .before .before .before .before .if1 .taken in
     let tail = c .before .before .before .before .before .tail-size .ensures in
-    let small = capped-within (givenSize h d) (subst (λ (k : ℕ). k ≤ maxBody) tail (c .before .before .before .before .if2 .taken)) in
+    let small = capped-within (givenSize h d) (subst (λ (k : ℕ). k ≤ maxBody) tail (omega (arith, c .before .before .before .before .if2 .taken))) in
     let good = sym (c .before .before .before .check-warnings .ensures) ∙ ap paperWritable (c .before .enum-told .given .1) in
     subst (λ (k : ℕ). Planned h d k) (sym (tail ∙ small .1)) (all-fit h d head (small .0) good))
     (λ c. search needs)
@@ -37,7 +38,7 @@ write-envelope-spec =
     let d = content (a .id .now) (a .text .now) (a .lens .now) (a .body .now) in
     let head = sym (c .before .before .before .before .before .before .before .before .before .before .head-fits .ensures) ∙ c .before .before .before .before .before .before .before .before .before .if1 .taken in
     let tail = c .before .before .before .before .before .before .before .before .tail-size .ensures in
-    let small = capped-within (givenSize h d) (subst (λ (k : ℕ). k ≤ maxBody) tail (c .before .before .before .before .before .before .before .if2 .taken)) in
+    let small = capped-within (givenSize h d) (subst (λ (k : ℕ). k ≤ maxBody) tail (omega (arith, c .before .before .before .before .before .before .before .if2 .taken))) in
     let good = sym (c .before .before .before .before .before .before .check-warnings .ensures) ∙ ap paperWritable (c .before .before .before .before .enum-told .given .1) in
     wrote-fine (all-fit h d head (small .0) good .check) (c .before .before .put-envelope .ensures))
     (λ c.
@@ -46,14 +47,14 @@ write-envelope-spec =
     let d = content (a .id .now) (a .text .now) (a .lens .now) (a .body .now) in
     let head = sym (c .before .before .before .before .before .before .before .head-fits .ensures) ∙ c .before .before .before .before .before .before .if1 .taken in
     let tail = c .before .before .before .before .before .tail-size .ensures in
-    let small = capped-within (givenSize h d) (subst (λ (k : ℕ). k ≤ maxBody) tail (c .before .before .before .before .if2 .taken)) in
+    let small = capped-within (givenSize h d) (subst (λ (k : ℕ). k ≤ maxBody) tail (omega (arith, c .before .before .before .before .if2 .taken))) in
     wrote-against (warnings-unfit h d head (small .0) (sym (c .before .before .before .check-warnings .ensures) ∙ ap paperWritable (c .before .e .given .1))))
     (λ c.
     let a = c .before .before .before .before .before .before .before .before .before .args in
     let h = paperHeader (a .header) in
     let d = content (a .id .now) (a .text .now) (a .lens .now) (a .body .now) in
     let head = sym (c .before .before .before .head-fits .ensures) ∙ c .before .before .if1 .taken in
-    wrote-against (body-long h d head (capped-past (givenSize h d) (subst (λ (k : ℕ). maxBody < k) (c .before .tail-size .ensures) (c .if2 .left)))))
+    wrote-against (body-long h d head (capped-past (givenSize h d) (subst (λ (k : ℕ). maxBody < k) (c .before .tail-size .ensures) (omega (arith, c .if2 .left))))))
     (λ c.
     let a = c .before .before .before .before .before .before .before .args in
     wrote-against (head-unfit (paperHeader (a .header)) (content (a .id .now) (a .text .now) (a .lens .now) (a .body .now)) (sym (c .before .head-fits .ensures) ∙ c .if1 .left))))

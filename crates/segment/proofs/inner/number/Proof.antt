@@ -3,7 +3,7 @@ use Prim.Native.Nat.{ℕ, _≤_, _<_, _-_, _+_, _*_, _^_}
 use mathlib.Core.Path.{_≡_, sym, ap₂, _∙_, subst}
 use borrow.Author.Needs.{needs}
 use native.Mathlib.Omega.{arith}
-use native.Mathlib.Nat.{le-refl, sub-self, zero-lt-suc}
+use native.Mathlib.Nat.{sub-self, zero-lt-suc}
 use Rattle.types.specs.Number.{part}
 use Rattle.types.proofs.BigEndian.{more-below, below-eight}
 use Rattle.segment.specs.LittleEndian.{le}
@@ -37,7 +37,7 @@ number-spec =
     (tie.spec
     Inv-loop
     μ-loop
-    (λ c. let a = c .before .args in (le-refl _, le-none (a .bytes .now) (a .at) (a .n), rw (sub-self (a .n)) (zero-lt-suc 0)))
+    (λ c. let a = c .before .args in (omega arith, le-none (a .bytes .now) (a .at) (a .n), rw (sub-self (a .n)) (zero-lt-suc 0)))
     (λ c. omega arith)
     (λ c. omega arith)
     (λ c. omega arith)
