@@ -11,13 +11,13 @@ use mir.Val.{toZ}
 use Rattle.types.specs.Answer.{got}
 use Rattle.types.specs.Number.{be, part}
 use Rattle.types.specs.Along.{Walks}
-use Rattle.types.specs.Read.{Place, Strings, strings, natural, stringsAt, textsIn, stringListAt}
+use Rattle.types.specs.Read.{Place, Strings, strings, natural, stringsAt, textsIn, stringListAt, textsOf}
 use Rattle.types.proofs.Found.{got-value}
 use Rattle.types.proofs.Steady.{part-same, appended, steady-string-list}
 use Rattle.types.proofs.Walking.{walk-read, list-strings}
 use Rattle.frame.specs.Header.{headerOf, knownOpcode, hasWarnings}
 use Rattle.basis.specs.Front.{Front, incomplete, refuses, whole}
-use Rattle.frame.specs.Envelope.{declared, sizeOf, Envelope, envelopeWith, afterId, warningsAt, within, inside, envelope, textsOf, warningsIn}
+use Rattle.frame.specs.Envelope.{declared, sizeOf, Envelope, envelopeWith, afterId, warningsAt, within, inside, envelope, warningsIn}
 use Rattle.frame.specs.Along.{Walked}
 use Rattle.basis.proofs.Fronts.{not-whole, refused-not-whole, whole-value}
 use Rattle.frame.proofs.Cases.{Withins, opcode-unknown, id-cut, warnings-bad, read, within-case, Sized, size-found, envelope-unfinished, envelope-refused, envelope-inside, warnings-there, warnings-none}

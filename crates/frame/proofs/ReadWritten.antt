@@ -16,7 +16,7 @@ use mir.ValLaws.{ofZ-toZ}
 use Rattle.basis.specs.Bytes.{Bytes}
 use Rattle.types.specs.Answer.{Answer, got, refused}
 use Rattle.types.specs.Number.{be, part, digits}
-use Rattle.types.specs.Read.{Place, place, Strings, bytesIn, stringsAt, textsIn}
+use Rattle.types.specs.Read.{Place, place, Strings, bytesIn, stringsAt, textsIn, textsOf}
 use Rattle.types.specs.Write.{Check, fine, joined, lengthsOf, listBytes, listCheck, put, written, output, Wrote}
 use Rattle.types.proofs.BigEndian.{digits-be, be-below, length-part, bytes-part}
 use Rattle.types.proofs.Put.{demanded}
@@ -27,7 +27,7 @@ use Rattle.types.proofs.Lists.{ListRead, list-forth, cut-joined}
 use Rattle.types.proofs.Reading.{bytes-there}
 use Rattle.frame.specs.Header.{Header, headerOf, flag, hasId, hasWarnings}
 use Rattle.basis.specs.Front.{whole}
-use Rattle.frame.specs.Envelope.{declared, Envelope, idPlace, afterId, warningsAt, envelope, idIn, bodyIn, textsOf, warningsIn}
+use Rattle.frame.specs.Envelope.{declared, Envelope, idPlace, afterId, warningsAt, envelope, idIn, bodyIn, warningsIn}
 use Rattle.frame.specs.Write.{Content, content, idPart, warningsPart, tailBytes, headerBytes, envelopeBytes, maxBody, maxFlags, idFits, warningFits, flagsFit, headFits, warningsCheck, envelopeCheck}
 use Rattle.frame.specs.ThereAndBack.{Premises, contentOf, WrittenAgain}
 use Rattle.frame.proofs.Bounds.{within-bytes}

@@ -15,7 +15,7 @@ use mir.Val.{toZ, ofZ, SFits}
 use mir.ValLaws.{toZ-ofZ, ofZ-fits}
 use Rattle.types.specs.Answer.{got}
 use Rattle.types.specs.Number.{be, digits}
-use Rattle.types.specs.Read.{place, Strings, strings, bytesIn, natural, stringsAt, textsIn}
+use Rattle.types.specs.Read.{place, Strings, strings, bytesIn, natural, stringsAt, textsIn, textsOf}
 use Rattle.types.specs.Write.{fine, cutBy, listBytes, listCheck, Wrote}
 use Rattle.types.proofs.BigEndian.{be-digits-fit}
 use Rattle.types.specs.ThereAndBack.{Holds, Stands}
@@ -24,7 +24,7 @@ use Rattle.types.proofs.Lists.{list-texts, list-back}
 use Rattle.types.proofs.Reading.{natural-some}
 use Rattle.frame.specs.Header.{Header, headerOf, flag, hasId, hasWarnings, knownVersion}
 use Rattle.basis.specs.Front.{whole}
-use Rattle.frame.specs.Envelope.{declared, sizeOf, Envelope, envelopeWith, afterId, warningsAt, within, inside, envelope, idIn, bodyIn, textsOf, warningsIn}
+use Rattle.frame.specs.Envelope.{declared, sizeOf, Envelope, envelopeWith, afterId, warningsAt, within, inside, envelope, idIn, bodyIn, warningsIn}
 use Rattle.frame.specs.Write.{Content, idPart, warningsPart, tailBytes, clearedFlags, headerBytes, envelopeBytes, envelopeCheck, cleared, textsPart}
 use Rattle.frame.specs.ThereAndBack.{ReadBack}
 use Rattle.frame.proofs.Cases.{fits, size-is, read, within-is, warnings-there, warnings-none, envelope-inside}

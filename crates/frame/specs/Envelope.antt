@@ -11,7 +11,7 @@ use mir.Val.{toZ}
 use Rattle.basis.specs.Front.{Front, incomplete, refuses, whole, ifWhole}
 use Rattle.types.specs.Answer.{Answer, got, refused}
 use Rattle.types.specs.Number.{be, part}
-use Rattle.types.specs.Read.{Place, place, Strings, strings, bytesIn, natural, stringsAt, textsIn, stringListAt}
+use Rattle.types.specs.Read.{Place, place, Strings, strings, bytesIn, natural, stringsAt, textsOf, stringListAt}
 use Rattle.frame.specs.Header.{Header, headerLength, idLength, headerOf, knownVersion, knownOpcode, hasId, hasWarnings}
 
 -- ---- how long it is: up to 9
@@ -90,9 +90,5 @@ unfoldable pub bodyIn : List ℕ → Envelope → List ℕ
 bodyIn s e = bytesIn s (e .body)
 
 -- the texts of its warnings
-abbrev pub textsOf : List ℕ → Answer (List Place) → List (List ℕ)
-textsOf s (got places next) = textsIn s places
-textsOf s (refused number) = []
-
 unfoldable pub warningsIn : List ℕ → Envelope → List (List ℕ)
 warningsIn s e = textsOf s (stringsAt s (e .warnings .count) (e .warnings .start))

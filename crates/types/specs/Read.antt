@@ -115,6 +115,7 @@ unfoldable pub textsIn : List ℕ → List Place → List (List ℕ)
 textsIn s [] = []
 textsIn s (p ∷ ps) = bytesIn s p ∷ textsIn s ps
 
+-- and those of strings as they were read: none where they were refused
 abbrev pub textsOf : List ℕ → Answer (List Place) → List (List ℕ)
 textsOf s (got ps next) = textsIn s ps
 textsOf s (refused number) = []
