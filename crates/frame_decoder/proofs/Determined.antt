@@ -1,13 +1,12 @@
 -- Each public function's contract leaves nothing open: a line for each. Of a call, the answer, the reader and what both buffers then hold.
 -- Assumes nothing.
-use mathlib.Core.Path.{_≡_, refl, sym, _∙_}
+use mathlib.Core.Path.{refl, sym, _∙_}
 use Rattle.basis.specs.Determined.{Determined, DeterminedAs, DeterminedLent}
 use Rattle.basis.proofs.Determined.{by-equation, by-sight, by-meaning}
 use Rattle.types.specs.Paper.{placeOf}
 use Rattle.segment.specs.Paper.{paperForm}
 use Rattle.frame_decoder.specs.Reader.{fresh, held, bytesAt}
-use Rattle.frame_decoder.specs.Call.{call}
-use Rattle.frame_decoder.specs.Paper.{paperReader, paperBuffer, paperHeard}
+use Rattle.frame_decoder.specs.Paper.{paperReader, paperBuffer}
 use Rattle.frame_decoder.proofs.Told.{reader-told, Lent, lent-apart, Seen, step-apart}
 use Rattle.frame_decoder.proofs.part.Reads as parts
 use Rattle.frame_decoder.proofs.Reader.new.Reads as news
@@ -29,8 +28,4 @@ read-determined = record { same = λ κs a r s e f p q. step-apart r s (e .1 .0 
 
 pub consume-determined : DeterminedLent lents.ended (λ M. lents.clauses) {Seen = Lent} (λ κs r e. ((e .0 .now, r), (e .1 .0 .now, e .1 .1 .0 .now)))
 consume-determined =
-    record {
-      Claim = λ κs a r e. paperHeard r (e .0 .now) (e .1 .0 .now) (e .1 .1 .0 .now) ≡ call (paperReader (a .0 .now)) (a .1 .0 .now) (a .1 .1 .0 .now) (a .1 .1 .1 .0 .now);
-      own = λ M 𝓤 H A at-mem run κs a g r e. refl;
-      decides = record { same = λ κs a r s e f p q. lent-apart r s (e .0 .now) (f .0 .now) (e .1 .0 .now) (e .1 .1 .0 .now) (f .1 .0 .now) (f .1 .1 .0 .now) (p ∙ sym q) };
-    }
+    record { Claim = _; own = λ M 𝓤 H A at-mem run κs a g r e. refl; decides = record { same = λ κs a r s e f p q. lent-apart r s (e .0 .now) (f .0 .now) (e .1 .0 .now) (e .1 .1 .0 .now) (f .1 .0 .now) (f .1 .1 .0 .now) (p ∙ sym q) } }
