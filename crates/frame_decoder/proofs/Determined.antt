@@ -28,4 +28,4 @@ read-determined = record { same = λ κs a r s e f p q. step-apart r s (e .1 .0 
 
 pub consume-determined : DeterminedLent lents.ended (λ M. lents.clauses) {Seen = Lent} (λ κs r e. ((e .0 .now, r), (e .1 .0 .now, e .1 .1 .0 .now)))
 consume-determined =
-    record { Claim = _; own = λ M 𝓤 H A at-mem run κs a g r e. refl; decides = record { same = λ κs a r s e f p q. lent-apart r s (e .0 .now) (f .0 .now) (e .1 .0 .now) (e .1 .1 .0 .now) (f .1 .0 .now) (f .1 .1 .0 .now) (p ∙ sym q) } }
+    record { Claim = _; own = λ M 𝓤 H A at-mem run κs a g r e. refl; decides = record { same = λ κs a r s e f p q. lent-apart _ _ _ _ _ _ _ _ (p ∙ sym q) } }

@@ -52,16 +52,16 @@ finalize-non-self-contained-determined = by-step (λ κs e. e .1 .0 .now) (λ κ
 -- Of those that take the writer by reference, the writer too.
 pub reset-mut-determined : DeterminedLent lent-resets.ended (λ M. lent-resets.clauses) (λ κs r e. e .0 .now)
 reset-mut-determined =
-    record { Claim = _; own = λ M 𝓤 H A at-mem run κs a g r e. refl; decides = record { same = λ κs a r s e f p q. told-apart encoder-told (e .0 .now) (f .0 .now) (p ∙ sym q) } }
+    record { Claim = _; own = λ M 𝓤 H A at-mem run κs a g r e. refl; decides = record { same = λ κs a r s e f p q. told-apart encoder-told _ _ (p ∙ sym q) } }
 
 pub add-envelope-mut-determined : DeterminedLent lent-adds.ended (λ M. lent-adds.clauses) {Seen = Lent} (λ κs r e. ((e .0 .now, r), e .1 .0 .now))
 add-envelope-mut-determined =
-    record { Claim = _; own = λ M 𝓤 H A at-mem run κs a g r e. refl; decides = record { same = λ κs a r s e f p q. lent-apart (e .0 .now) (f .0 .now) r s (e .1 .0 .now) (f .1 .0 .now) (p ∙ sym q) } }
+    record { Claim = _; own = λ M 𝓤 H A at-mem run κs a g r e. refl; decides = record { same = λ κs a r s e f p q. lent-apart _ _ _ _ _ _ (p ∙ sym q) } }
 
 pub finalize-self-contained-mut-determined : DeterminedLent lent-finishes.ended (λ M. lent-finishes.clauses) {Seen = Lent} (λ κs r e. ((e .0 .now, r), e .1 .0 .now))
 finalize-self-contained-mut-determined =
-    record { Claim = _; own = λ M 𝓤 H A at-mem run κs a g r e. refl; decides = record { same = λ κs a r s e f p q. lent-apart (e .0 .now) (f .0 .now) r s (e .1 .0 .now) (f .1 .0 .now) (p ∙ sym q) } }
+    record { Claim = _; own = λ M 𝓤 H A at-mem run κs a g r e. refl; decides = record { same = λ κs a r s e f p q. lent-apart _ _ _ _ _ _ (p ∙ sym q) } }
 
 pub finalize-non-self-contained-mut-determined : DeterminedLent lent-pieces.ended (λ M. lent-pieces.clauses) {Seen = Lent} (λ κs r e. ((e .0 .now, r), e .1 .0 .now))
 finalize-non-self-contained-mut-determined =
-    record { Claim = _; own = λ M 𝓤 H A at-mem run κs a g r e. refl; decides = record { same = λ κs a r s e f p q. lent-apart (e .0 .now) (f .0 .now) r s (e .1 .0 .now) (f .1 .0 .now) (p ∙ sym q) } }
+    record { Claim = _; own = λ M 𝓤 H A at-mem run κs a g r e. refl; decides = record { same = λ κs a r s e f p q. lent-apart _ _ _ _ _ _ (p ∙ sym q) } }
