@@ -91,28 +91,28 @@ heard-is h r seg re = ap (λ (a : code-answer.Answer). record { answer = a; take
 
 -- ---- an answer with the reader and what the buffers then hold
 
-module _ (g h : Heard) (r s : code-reader.Reader) (seg re seg′ re′ : List ℕ) (e : paperHeard g r seg re ≡ paperHeard h s seg′ re′) where
-  pub heard-apart : g ≡ h
-  heard-apart = sym (heard-is g r seg re) ∙ ap heardFrom e ∙ heard-is h s seg′ re′
+abbrev pub Lent : Type 0
+Lent = (code-reader.Reader × Heard) × (List ℕ × List ℕ)
 
-  pub reader-apart : r ≡ s
-  reader-apart = sym (reader-is r) ∙ ap (λ (o : Outcome). readerFrom (o .reader)) e ∙ reader-is s
+lentFrom : Outcome → Lent
+lentFrom o = ((readerFrom (o .reader), heardFrom o), (o .segment, o .reassembly))
+
+lent-is : (h : Heard) (r : code-reader.Reader) (seg re : List ℕ) → _≡_ {A = Lent} (lentFrom (paperHeard h r seg re)) ((r, h), (seg, re))
+unfolding lentFrom
+lent-is h r seg re = ap₂ lent (reader-is r) (heard-is h r seg re)
+  where
+    lent : code-reader.Reader → Heard → Lent
+    lent r h = ((r, h), (seg, re))
+
+pub lent-apart : (g h : Heard) (r s : code-reader.Reader) (seg re seg′ re′ : List ℕ) → paperHeard g r seg re ≡ paperHeard h s seg′ re′ → _≡_ {A = Lent} ((r, g), (seg, re)) ((s, h), (seg′, re′))
+lent-apart g h r s seg re seg′ re′ e = sym (lent-is g r seg re) ∙ ap lentFrom e ∙ lent-is h s seg′ re′
 
 -- the step, and both buffers
 abbrev pub Seen : Type 0
 Seen = Step × (List ℕ × List ℕ)
 
 pub step-apart : (r s : Step) (seg re seg′ re′ : List ℕ) → paperStep r seg re ≡ paperStep s seg′ re′ → _≡_ {A = Seen} (r, (seg, re)) (s, (seg′, re′))
-step-apart r s seg re seg′ re′ e =
-    ap₂ with-buffers
-    (ap₂ step (reader-apart (r .heard) (s .heard) (r .reader) (s .reader) seg re seg′ re′ e) (heard-apart (r .heard) (s .heard) (r .reader) (s .reader) seg re seg′ re′ e))
-    (ap₂ buffers (ap (λ (o : Outcome). o .segment) e) (ap (λ (o : Outcome). o .reassembly) e))
+step-apart r s seg re seg′ re′ e = ap stepped (lent-apart (r .heard) (s .heard) (r .reader) (s .reader) seg re seg′ re′ e)
   where
-    step : code-reader.Reader → Heard → Step
-    step r h = record { reader = r; heard = h }
-
-    buffers : List ℕ → List ℕ → List ℕ × List ℕ
-    buffers seg re = (seg, re)
-
-    with-buffers : Step → List ℕ × List ℕ → Seen
-    with-buffers s b = (s, b)
+    stepped : Lent → Seen
+    stepped l = (record { reader = l .0 .0; heard = l .0 .1 }, l .1)

@@ -1,18 +1,16 @@
 -- Each public function's contract leaves nothing open: a line for each. Of those that write, the answer and what the output then holds.
 -- Assumes nothing.
 use Prim.Native.Nat.{ℕ}
-use mathlib.Core.Path.{_≡_, sym, ap, _∙_}
+use mathlib.Core.Path.{_≡_, refl, sym, _∙_}
 use mathlib.Core.List.{List}
 use lib.Dec.{ltb}
-use Rattle.basis.specs.Determined.{Determined, DeterminedAs}
+use Rattle.basis.specs.Determined.{Determined, DeterminedAs, DeterminedLent}
 use Rattle.basis.proofs.Determined.{by-equation, by-meaning, told-apart}
 use Rattle.segment.specs.Paper.{paperForm}
-use Rattle.frame_encoder.specs.Writer.{Done, done, fresh, fits, add, finish, piece}
-use Rattle.frame_encoder.specs.Paper.{paperWriter, paperEncoded, paperStep}
-use Rattle.frame_encoder.specs.declared.FrameEncoder.{FrameEncoder}
-use Rattle.frame_encoder.specs.declared.Encoded.{Encoded}
+use Rattle.frame_encoder.specs.Writer.{Done, fresh, fits, add, finish, piece}
+use Rattle.frame_encoder.specs.Paper.{paperWriter, paperStep}
 use Rattle.frame_encoder.specs.declared.Step.{Step}
-use Rattle.frame_encoder.proofs.Told.{encoder-told, encoded-told, Outcome, step-apart}
+use Rattle.frame_encoder.proofs.Told.{encoder-told, Lent, lent-apart, Outcome, step-apart}
 use Rattle.frame_encoder.proofs.FrameEncoder.new.Reads as news
 use Rattle.frame_encoder.proofs.FrameEncoder.can_fit.Reads as fittings
 use Rattle.frame_encoder.proofs.FrameEncoder.has_envelopes.Reads as havings
@@ -20,6 +18,10 @@ use Rattle.frame_encoder.proofs.FrameEncoder.reset.Reads as resets
 use Rattle.frame_encoder.proofs.FrameEncoder.add_envelope.Reads as adds
 use Rattle.frame_encoder.proofs.FrameEncoder.finalize_self_contained.Reads as finishes
 use Rattle.frame_encoder.proofs.FrameEncoder.finalize_non_self_contained.Reads as pieces
+use Rattle.frame_encoder.proofs.FrameEncoder.reset_mut as lent-resets
+use Rattle.frame_encoder.proofs.FrameEncoder.add_envelope_mut as lent-adds
+use Rattle.frame_encoder.proofs.FrameEncoder.finalize_self_contained_mut as lent-finishes
+use Rattle.frame_encoder.proofs.FrameEncoder.finalize_non_self_contained_mut as lent-pieces
 
 pub new-determined : Determined news.Post
 new-determined = by-meaning encoder-told (λ κs a. fresh (paperForm (a .0)))
@@ -47,8 +49,19 @@ finalize-self-contained-determined = by-step (λ κs e. e .1 .0 .now) (λ κs a.
 pub finalize-non-self-contained-determined : DeterminedAs {Seen = Outcome} (λ κs r e. (r, e .1 .0 .now)) pieces.Post
 finalize-non-self-contained-determined = by-step (λ κs e. e .1 .0 .now) (λ κs a. piece (paperWriter (a .0)) (a .1 .0 .now) (a .1 .1 .0 .now))
 
--- Those that take the writer by reference say the same of the writer at exit, the answer and the output: from what the three mean together, each follows.
-pub lent-apart : (v w : FrameEncoder) (r s : Encoded) (out left : List ℕ) → done (paperWriter v) (paperEncoded r) out ≡ done (paperWriter w) (paperEncoded s) left
-    → (v ≡ w) × (r ≡ s) × (out ≡ left)
-lent-apart v w r s out left e =
-    (told-apart encoder-told v w (ap (λ (d : Done). d .after) e), told-apart encoded-told r s (ap (λ (d : Done). d .reply) e), ap (λ (d : Done). d .output) e)
+-- Of those that take the writer by reference, the writer too.
+pub reset-mut-determined : DeterminedLent lent-resets.ended (λ M. lent-resets.clauses) (λ κs r e. e .0 .now)
+reset-mut-determined =
+    record { Claim = _; own = λ M 𝓤 H A at-mem run κs a g r e. refl; decides = record { same = λ κs a r s e f p q. told-apart encoder-told _ _ (p ∙ sym q) } }
+
+pub add-envelope-mut-determined : DeterminedLent lent-adds.ended (λ M. lent-adds.clauses) {Seen = Lent} (λ κs r e. ((e .0 .now, r), e .1 .0 .now))
+add-envelope-mut-determined =
+    record { Claim = _; own = λ M 𝓤 H A at-mem run κs a g r e. refl; decides = record { same = λ κs a r s e f p q. lent-apart _ _ _ _ _ _ (p ∙ sym q) } }
+
+pub finalize-self-contained-mut-determined : DeterminedLent lent-finishes.ended (λ M. lent-finishes.clauses) {Seen = Lent} (λ κs r e. ((e .0 .now, r), e .1 .0 .now))
+finalize-self-contained-mut-determined =
+    record { Claim = _; own = λ M 𝓤 H A at-mem run κs a g r e. refl; decides = record { same = λ κs a r s e f p q. lent-apart _ _ _ _ _ _ (p ∙ sym q) } }
+
+pub finalize-non-self-contained-mut-determined : DeterminedLent lent-pieces.ended (λ M. lent-pieces.clauses) {Seen = Lent} (λ κs r e. ((e .0 .now, r), e .1 .0 .now))
+finalize-non-self-contained-mut-determined =
+    record { Claim = _; own = λ M 𝓤 H A at-mem run κs a g r e. refl; decides = record { same = λ κs a r s e f p q. lent-apart _ _ _ _ _ _ (p ∙ sym q) } }

@@ -5,7 +5,7 @@ use mathlib.Core.List.{List}
 use Rattle.basis.proofs.Determined.{Tells}
 use Rattle.refusal.proofs.Numbers.{refusalOf, refusalOf-number}
 use Rattle.segment.proofs.Told.{form-told}
-use Rattle.frame_encoder.specs.Writer.{Writer, Reply, wrote, refused, Done}
+use Rattle.frame_encoder.specs.Writer.{Writer, Reply, wrote, refused, Done, done}
 use Rattle.frame_encoder.specs.Paper.{paperWriter, paperEncoded, paperStep}
 use Rattle.frame_encoder.specs.declared.FrameEncoder.{FrameEncoder}
 use Rattle.frame_encoder.specs.declared.Encoded.{Encoded}
@@ -33,22 +33,29 @@ encoded-is (Encoded.Refused e) = ap Encoded.Refused (refusalOf-number e)
 pub encoded-told : Tells paperEncoded
 encoded-told = record { back = encodedFrom; is = encoded-is }
 
--- a step and what the output holds, from what both mean
-stepFrom : Done → Step
-stepFrom d = record { encoder = encoderFrom (d .after); answer = encodedFrom (d .reply) }
+-- the writer, the answer and what the output then holds
+abbrev pub Lent : Type 0
+Lent = (FrameEncoder × Encoded) × List ℕ
 
-step-is : (s : Step) (out : List ℕ) → stepFrom (paperStep s out) ≡ s
-unfolding stepFrom
-step-is s out =
-    ap₂ (λ (e : FrameEncoder) (a : Encoded). record { encoder = e; answer = a }) (encoder-is (s .encoder)) (encoded-is (s .answer))
+lentFrom : Done → Lent
+lentFrom d = ((encoderFrom (d .after), encodedFrom (d .reply)), d .output)
 
--- the answer, and what the output then holds
+lent-is : (w : FrameEncoder) (r : Encoded) (out : List ℕ) → _≡_ {A = Lent} (lentFrom (done (paperWriter w) (paperEncoded r) out)) ((w, r), out)
+unfolding lentFrom
+lent-is w r out = ap₂ lent (encoder-is w) (encoded-is r)
+  where
+    lent : FrameEncoder → Encoded → Lent
+    lent w r = ((w, r), out)
+
+pub lent-apart : (v w : FrameEncoder) (r s : Encoded) (out left : List ℕ) → done (paperWriter v) (paperEncoded r) out ≡ done (paperWriter w) (paperEncoded s) left → _≡_ {A = Lent} ((v, r), out) ((w, s), left)
+lent-apart v w r s out left e = sym (lent-is v r out) ∙ ap lentFrom e ∙ lent-is w s left
+
+-- the step, and the output
 abbrev pub Outcome : Type 0
 Outcome = Step × List ℕ
 
 pub step-apart : (r s : Step) (out left : List ℕ) → paperStep r out ≡ paperStep s left → _≡_ {A = Outcome} (r, out) (s, left)
-step-apart r s out left e =
-    ap₂ pair (sym (step-is r out) ∙ ap stepFrom e ∙ step-is s left) (ap (λ (d : Done). d .output) e)
+step-apart r s out left e = ap stepped (lent-apart (r .encoder) (s .encoder) (r .answer) (s .answer) out left e)
   where
-    pair : Step → List ℕ → Outcome
-    pair r left = (r, left)
+    stepped : Lent → Outcome
+    stepped l = (record { encoder = l .0 .0; answer = l .0 .1 }, l .1)

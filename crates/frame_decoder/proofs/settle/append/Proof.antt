@@ -7,7 +7,6 @@ use native.Mathlib.Omega.{arith}
 use borrow.Author.Tests.{le-leb, lt-leb}
 use lib.ListN.{length}
 use Rattle.types.specs.Write.{put}
-use Rattle.types.proofs.Put.{length-put}
 use Rattle.frame_decoder.specs.Reader.{Reader, inReassembly, keeping}
 use Rattle.frame_decoder.specs.Settle.{Due, settled, refusing, readPending, readJoined}
 use Rattle.frame_decoder.specs.Paper.{paperReader}
@@ -29,13 +28,8 @@ append-spec =
     (λ c. search needs)
     (λ c κs. search needs)
     (λ c κs.
-    let a = c .before .before .before .before .before .before .before .before .before .args in
-    let re = a .reassembly .now in
-    let p = a .payload .now in
-    let room : a .m .pending + length p ≤ length re = omega (arith, c .before .before .before .before .before .before .if1 .taken, c .before .before .before .before .before .before .before .before .before .pre) in
     let n = ap (λ (x : Reader). x .pending) (c .before .kept .ensures) in
-    let l = ap length (tail-put re p (a .m .pending) (c .before .before .before .before .put-bytes .ensures)) ∙ length-put re (a .m .pending) p room in
-    (omega arith, omega (arith, n, l)))
+    (omega arith, omega (arith, n)))
     (λ c. search needs)
     (λ c.
     let a = c .before .before .before .before .before .before .before .before .before .before .before .before .args in

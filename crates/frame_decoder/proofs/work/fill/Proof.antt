@@ -19,6 +19,42 @@ use Rattle.frame_decoder.proofs.work.fill.Tie as tie
 none-wanted : (n : ℕ) → 0 ≡ min 0 n
 none-wanted n = omega arith
 
+-- of a header
+header-filled : tie.Need-returns
+unfolding stored grown
+header-filled c =
+    let a = c .before .before .before .before .before .before .before .before .before .before .before .args in
+    let r = paperReader (a .m) in
+    let f = paperForm (a .m .form) in
+    let seg = a .segment .now in
+    let bytes = a .bytes .now in
+    let is = c .before .before .before .before .before .before .before .phase .given .1 in
+    let filled = c .before .before .before .before .before .before .before .phase .given .0 .0 in
+    let took = c .before .before .before .fill-up .result in
+    record {
+      count = c .before .before .before .fill-up .ensures .0 ∙ ap (λ (k : ℕ). min (k - filled) (length bytes)) (c .before .before .before .before .before .header-len .ensures) ∙ sym (ap (λ (q : Phase). min (wanted f (paperPhase q)) (length bytes)) is);
+      reader = c .in-phase .ensures ∙ sym (ap (λ (q : Phase). inPhase r (grown took (paperPhase q))) is);
+      buffer = c .before .before .before .fill-up .ensures .1 ∙ sym (ap (λ (q : Phase). stored (paperPhase q) seg (take took bytes)) is);
+    }
+
+-- of a segment whose header has passed
+rest-filled : tie.Need-returns-2
+unfolding stored grown
+rest-filled c =
+    let a = c .before .before .before .before .before .before .before .before .before .before .before .args in
+    let r = paperReader (a .m) in
+    let f = paperForm (a .m .form) in
+    let seg = a .segment .now in
+    let bytes = a .bytes .now in
+    let is = c .before .before .before .before .before .before .before .phase2 .given .1 in
+    let filled = c .before .before .before .before .before .before .before .phase2 .given .0 .0 in
+    let took = c .before .before .before .fill-up2 .result in
+    record {
+      count = c .before .before .before .fill-up2 .ensures .0 ∙ ap (λ (k : ℕ). min (k + c .before .before .before .before .before .before .before .phase2 .given .0 .1 .0 + 4 - filled) (length bytes)) (c .before .before .before .before .before .header-len2 .ensures) ∙ sym (ap (λ (q : Phase). min (wanted f (paperPhase q)) (length bytes)) is);
+      reader = c .in-phase2 .ensures ∙ sym (ap (λ (q : Phase). inPhase r (grown took (paperPhase q))) is);
+      buffer = c .before .before .before .fill-up2 .ensures .1 ∙ sym (ap (λ (q : Phase). stored (paperPhase q) seg (take took bytes)) is);
+    }
+
 pub fill-spec : {M : Type 1} → statement M
 unfolding stored grown
 fill-spec =
@@ -83,35 +119,9 @@ fill-spec =
     (λ c. search needs)
     (λ c. search needs)
     (λ c. search needs)
-    (λ c.
-    let a = c .before .before .before .before .before .before .before .before .before .before .before .args in
-    let r = paperReader (a .m) in
-    let f = paperForm (a .m .form) in
-    let seg = a .segment .now in
-    let bytes = a .bytes .now in
-    let is = c .before .before .before .before .before .before .before .phase .given .1 in
-    let filled = c .before .before .before .before .before .before .before .phase .given .0 .0 in
-    let took = c .before .before .before .fill-up .result in
-    record {
-      count = c .before .before .before .fill-up .ensures .0 ∙ ap (λ (k : ℕ). min (k - filled) (length bytes)) (c .before .before .before .before .before .header-len .ensures) ∙ sym (ap (λ (q : Phase). min (wanted f (paperPhase q)) (length bytes)) is);
-      reader = c .in-phase .ensures ∙ sym (ap (λ (q : Phase). inPhase r (grown took (paperPhase q))) is);
-      buffer = c .before .before .before .fill-up .ensures .1 ∙ sym (ap (λ (q : Phase). stored (paperPhase q) seg (take took bytes)) is);
-    })
+    header-filled
     (λ c. search needs)
-    (λ c.
-    let a = c .before .before .before .before .before .before .before .before .before .before .before .args in
-    let r = paperReader (a .m) in
-    let f = paperForm (a .m .form) in
-    let seg = a .segment .now in
-    let bytes = a .bytes .now in
-    let is = c .before .before .before .before .before .before .before .phase2 .given .1 in
-    let filled = c .before .before .before .before .before .before .before .phase2 .given .0 .0 in
-    let took = c .before .before .before .fill-up2 .result in
-    record {
-      count = c .before .before .before .fill-up2 .ensures .0 ∙ ap (λ (k : ℕ). min (k + c .before .before .before .before .before .before .before .phase2 .given .0 .1 .0 + 4 - filled) (length bytes)) (c .before .before .before .before .before .header-len2 .ensures) ∙ sym (ap (λ (q : Phase). min (wanted f (paperPhase q)) (length bytes)) is);
-      reader = c .in-phase2 .ensures ∙ sym (ap (λ (q : Phase). inPhase r (grown took (paperPhase q))) is);
-      buffer = c .before .before .before .fill-up2 .ensures .1 ∙ sym (ap (λ (q : Phase). stored (paperPhase q) seg (take took bytes)) is);
-    })
+    rest-filled
     (λ c.
     let a = c .before .before .before .before .args in
     let r = paperReader (a .m) in
