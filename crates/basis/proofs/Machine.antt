@@ -2,13 +2,13 @@
 -- is cut, its caller hears the same. Assumes nothing.
 use Prim.Native.Nat.{ℕ, zero, suc, _+_, _≤_, _<_}
 use mathlib.Core.Path.{_≡_, refl, sym, ap, ap₂, _∙_, subst}
-use mathlib.Core.List.{List, [], _∷_, _++_, append-assoc}
+use mathlib.Core.List.{List, [], _∷_, _++_}
 use native.Mathlib.Nat.{add-assoc}
 use native.Mathlib.Omega.{arith}
 use lib.ListN.{length, drop, length-drop}
 use lib.Seq.{drop-append-add, drop-append-le}
 use Rattle.basis.specs.Lists.{joined}
-use Rattle.basis.specs.Machine.{Reply, handsOn, asksMore, refusesWith, Step, step, Dated, dated, Story, says, refusedAfter, holding, saying, Close, usedUp, refusedWith, Uses, by-more, by-refusal, after-one, Hears, all-given, one-used, one-refused}
+use Rattle.basis.specs.Machine.{Reply, handsOn, asksMore, refusesWith, Step, step, Dated, dated, Story, says, refusedAfter, holding, saying, Close, usedUp, refusedWith, Uses, by-more, by-refusal, after-one, Same, Ends, Hears, all-given, one-used, one-refused}
 
 -- ---- a machine and its law
 
@@ -58,6 +58,11 @@ pub record Kept {S X E H : Type 0} (M : Machine S X E H) (s : S) (piece : List �
 pub record Lawful {S X E H : Type 0} (M : Machine S X E H) : Type 0 where
   pub keeps : (s : S) (piece : List ℕ) → M .Good s → Kept M s piece (M .call s piece)
   pub quiet : (s : S) (taken : ℕ) → M .Good s → M .Sure s → M .Waits s → M .rest s taken [] ≡ holding (M .holds s)
+
+-- where no piece is left, the machine waits
+abbrev pub Open : {S X E H : Type 0} → Machine S X E H → S → List (List ℕ) → Type 0
+Open M s [] = M .Waits s
+Open M s (piece ∷ pieces) = Unit {0}
 
 -- ---- what is said
 
@@ -113,12 +118,6 @@ module _ {S X E : Type 0} where
 abbrev From : {S X E : Type 0} → (S → List ℕ → Step S X E) → ℕ → List ℕ → Step S X E → List (Dated X) → Close E → ℕ → S → Type 0
 From call taken piece o xs c end u = Uses call (o .next) (taken + o .taken) (drop (o .taken) piece) xs c end u
 
-pub record Same {S X E : Type 0} (xs ys : List (Dated X)) (c d : Close E) (m n : ℕ) (t u : S) : Type 0 where
-  pub says : xs ≡ ys
-  pub ends : c ≡ d
-  pub taken : m ≡ n
-  pub leaves : t ≡ u
-
 pub one-way : {S X E : Type 0} {call : S → List ℕ → Step S X E} {s t u : S} {taken m n : ℕ} {piece : List ℕ} {xs ys : List (Dated X)} {c d : Close E}
     → Uses call s taken piece xs c m t → Uses call s taken piece ys d n u → Same xs ys c d m n t u
 one-way {taken = taken} (by-more e) (by-more f) =
@@ -140,16 +139,6 @@ one-way {call = call} {u = u} {taken = taken} {n = end} {piece = piece} {d = d} 
       taken = i .taken;
       leaves = i .leaves;
     }
-
--- ---- how a piece is used up
-
-pub record Ends {S X E : Type 0} (call : S → List ℕ → Step S X E) (s : S) (taken : ℕ) (piece : List ℕ) (most : ℕ) : Type 0 where
-  pub handed : List (Dated X)
-  pub close : Close E
-  pub end : ℕ
-  pub last : S
-  pub uses : Uses call s taken piece handed close end last
-  pub soon : length handed ≤ most
 
 -- ---- of a machine that keeps its law
 
@@ -267,17 +256,12 @@ module _ {S X E H : Type 0} (M : Machine S X E H) (law : Lawful M) where
 
   -- ---- all pieces
 
-  -- where no piece is left, the machine waits
-  abbrev pub Open : S → List (List ℕ) → Type 0
-  Open s [] = M .Waits s
-  Open s (piece ∷ pieces) = Unit {0}
-
-  open-waiting : (s : S) (pieces : List (List ℕ)) → M .Waits s → Open s pieces
+  open-waiting : (s : S) (pieces : List (List ℕ)) → M .Waits s → Open M s pieces
   open-waiting s [] w = w
   open-waiting s (piece ∷ pieces) w = tt
 
   -- what is heard is what was to come
-  pub heard-is : {s : S} {taken : ℕ} {pieces : List (List ℕ)} {m : Story X E H} → Hears (M .call) (M .holds) s taken pieces m → M .Good s → M .Sure s → Open s pieces → m ≡ M .rest s taken (joined pieces)
+  pub heard-is : {s : S} {taken : ℕ} {pieces : List (List ℕ)} {m : Story X E H} → Hears (M .call) (M .holds) s taken pieces m → M .Good s → M .Sure s → Open M s pieces → m ≡ M .rest s taken (joined pieces)
   unfolding joined
   heard-is {s} {taken} all-given g a w = sym (law .quiet s taken g a w)
   heard-is (one-used {t = t} {piece = piece} {pieces = pieces} {xs = xs} u on) g a w =

@@ -1,9 +1,9 @@
 -- A machine that is given a stream in pieces: what a call comes to, what using up a piece comes to, and what its caller hears of all. Said once of any state, of anything that is handed
 -- on, of any refusal and of anything that is held at the end. Assumes nothing.
-use Prim.Native.Nat.{ℕ, _+_}
+use Prim.Native.Nat.{ℕ, _+_, _≤_}
 use mathlib.Core.Path.{_≡_}
 use mathlib.Core.List.{List, [], _∷_}
-use lib.ListN.{drop}
+use lib.ListN.{length, drop}
 
 -- ---- one call
 
@@ -58,6 +58,22 @@ pub data Uses {S X E : Type 0} (call : S → List ℕ → Step S X E) : S → �
   after-one : {s t u : S} {taken n end : ℕ} {piece : List ℕ} {x : X} {xs : List (Dated X)} {c : Close E}
       → call s piece ≡ step (handsOn x) n t → Uses call t (taken + n) (drop n piece) xs c end u
       → Uses call s taken piece (dated (taken + n) x ∷ xs) c end u
+
+-- it is used up, with at most so much handed on
+pub record Ends {S X E : Type 0} (call : S → List ℕ → Step S X E) (s : S) (taken : ℕ) (piece : List ℕ) (most : ℕ) : Type 0 where
+  pub handed : List (Dated X)
+  pub close : Close E
+  pub end : ℕ
+  pub last : S
+  pub uses : Uses call s taken piece handed close end last
+  pub soon : length handed ≤ most
+
+-- two ways of using it up are one
+pub record Same {S X E : Type 0} (xs ys : List (Dated X)) (c d : Close E) (m n : ℕ) (t u : S) : Type 0 where
+  pub says : xs ≡ ys
+  pub ends : c ≡ d
+  pub taken : m ≡ n
+  pub leaves : t ≡ u
 
 -- ---- all pieces, one after the other
 

@@ -11,8 +11,8 @@ use lib.ListN.{length, take}
 use lib.Seq.{length-take-le}
 use Rattle.basis.specs.Front.{Front, incomplete}
 use Rattle.basis.specs.Lists.{joined}
-use Rattle.basis.specs.Machine.{Reply, handsOn, asksMore, refusesWith, Step, refusedAfter, holding, refusedWith, Uses, by-more, by-refusal, after-one, Hears, all-given, one-used, one-refused}
-use Rattle.basis.proofs.Machine.{Machine, Does, Kept, Lawful, Ends, asks-refuses, hands-refuses, same-refusal, ends, Open, heard-is, hears-all}
+use Rattle.basis.specs.Machine.{Reply, handsOn, asksMore, refusesWith, Step, refusedAfter, holding, refusedWith, Uses, by-more, by-refusal, after-one, Ends, Hears, all-given, one-used, one-refused}
+use Rattle.basis.proofs.Machine.{Machine, Does, Kept, Lawful, asks-refuses, hands-refuses, same-refusal, ends, Open, heard-is, hears-all}
 use Rattle.types.proofs.Cut.{both-true}
 use Rattle.segment.specs.Header.{Form, header, headerLength}
 use Rattle.segment.specs.Segment.{Segment, segmentLength}
@@ -166,7 +166,7 @@ module _ (f : Form) (seg re : List ℕ) where
         ap₂ refusedAfter (same-refusal q) (ap (λ (o : Step State Said ℕ). taken + o .taken) q)
     refused-first {piece = piece} (one-refused (after-one e u)) = absurd (hands-refuses (sym e ∙ out-of-range piece))
 
-  waiting : (pieces : List (List ℕ)) → Open reader lawful (start f seg re) pieces
+  waiting : (pieces : List (List ℕ)) → Open reader (start f seg re) pieces
   waiting [] = omega (arith, head-least f)
   waiting (piece ∷ pieces) = tt
 
