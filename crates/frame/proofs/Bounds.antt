@@ -9,6 +9,7 @@ use native.Mathlib.Nat.{lt-of-not-le, le-refl}
 use native.Mathlib.Omega.{arith}
 use lib.ListN.{length, take, length-append}
 use lib.Seq.{take-take, take-append-le, length-take-le}
+use Rattle.refusal.specs.Refusal.{Refusal, unknownOpcode, tracingIdCutShort, refusalNumber}
 use Rattle.types.specs.Answer.{got, refused}
 use Rattle.types.specs.Read.{strings, stringListAt}
 use Rattle.types.proofs.Found.{got-refused}
@@ -47,30 +48,30 @@ size-whole s q = found s q .size
 pub size-unfinished : (s : List ℕ) → sizeOf s ≡ incomplete → envelope s ≡ incomplete
 size-unfinished = envelope-unfinished
 
-pub size-refused : (s : List ℕ) {number : ℕ} → sizeOf s ≡ refuses number → envelope s ≡ refuses number
+pub size-refused : (s : List ℕ) {why : Refusal} → sizeOf s ≡ refuses why → envelope s ≡ refuses why
 size-refused s = envelope-refused s
 
-warnings-refused : (s : List ℕ) (h : Header) (at number : ℕ) → warningsAt s h at ≡ refused number → OfTexts number
+warnings-refused : (s : List ℕ) (h : Header) (at : ℕ) (why : Refusal) → warningsAt s h at ≡ refused why → OfTexts why
 unfolding warningsAt
-warnings-refused s h at number e = go (hasWarnings h) e
+warnings-refused s h at why e = go (hasWarnings h) e
   where
-    go : (t : Bool) → cond t (stringListAt s at) (got (strings 0 at) at) ≡ refused number → OfTexts number
-    go true e = list-refused s at number e
+    go : (t : Bool) → cond t (stringListAt s at) (got (strings 0 at) at) ≡ refused why → OfTexts why
+    go true e = list-refused s at why e
     go false e = absurd (got-refused (sym e))
 
 -- where it passes, there is an envelope of that size, or one of the later refusals
 pub later : (s : List ℕ) {n : ℕ} → sizeOf s ≡ whole n
-    → ((e : Envelope) × (envelope s ≡ whole e) × (e .size ≡ n)) ⊎ ((number : ℕ) × (envelope s ≡ refuses number) × (10 ≤ number) × (number ≤ 13))
+    → ((e : Envelope) × (envelope s ≡ whole e) × (e .size ≡ n)) ⊎ ((why : Refusal) × (envelope s ≡ refuses why) × (10 ≤ refusalNumber why) × (refusalNumber why ≤ 13))
 unfolding inside
 later s {n} p = go (within-case (take n s) (headerOf (take n s))) refl
   where
-    go : {f : Front Envelope} → Withins (take n s) (headerOf (take n s)) f → f ≡ within (take n s) (headerOf (take n s))
-        → ((e : Envelope) × (envelope s ≡ whole e) × (e .size ≡ n)) ⊎ ((number : ℕ) × (envelope s ≡ refuses number) × (10 ≤ number) × (number ≤ 13))
-    go (opcode-unknown k) e = inr (10, envelope-inside s p ∙ sym e, omega arith, omega arith)
-    go (id-cut k h) e = inr (11, envelope-inside s p ∙ sym e, omega arith, omega arith)
-    go (warnings-bad {number = number} k h w) e =
-        let r : OfTexts number = warnings-refused (take n s) (headerOf (take n s)) _ number w in
-        inr (number, envelope-inside s p ∙ sym e, omega (arith, r .0), omega (arith, r .1))
+    go : {f : Front Refusal Envelope} → Withins (take n s) (headerOf (take n s)) f → f ≡ within (take n s) (headerOf (take n s))
+        → ((e : Envelope) × (envelope s ≡ whole e) × (e .size ≡ n)) ⊎ ((why : Refusal) × (envelope s ≡ refuses why) × (10 ≤ refusalNumber why) × (refusalNumber why ≤ 13))
+    go (opcode-unknown k) e = inr (unknownOpcode, envelope-inside s p ∙ sym e, omega arith, omega arith)
+    go (id-cut k h) e = inr (tracingIdCutShort, envelope-inside s p ∙ sym e, omega arith, omega arith)
+    go (warnings-bad {why = why} k h w) e =
+        let r : OfTexts why = warnings-refused (take n s) (headerOf (take n s)) _ why w in
+        inr (why, envelope-inside s p ∙ sym e, omega (arith, r .0), omega (arith, r .1))
     go (read k h w) e =
         let z : Sized s n = size-found s n p in
         inl (_, envelope-inside s p ∙ sym e, length-take-le n s (omega (arith, z .is, z .room)))
@@ -80,7 +81,7 @@ later s {n} p = go (within-case (take n s) (headerOf (take n s))) refl
 pub nothing-behind : (s q : List ℕ) → (envelope s ≡ incomplete → ⊥) → envelope (s ++ q) ≡ envelope s
 nothing-behind s q there = go (size-case s) refl
   where
-    go : {f : Front ℕ} → Sizes s f → f ≡ sizeOf s → envelope (s ++ q) ≡ envelope s
+    go : {f : Front Refusal ℕ} → Sizes s f → f ≡ sizeOf s → envelope (s ++ q) ≡ envelope s
     go (short h) e = absurd (there (envelope-unfinished s (sym e)))
     go (negative h d) e =
         envelope-refused (s ++ q) (size-is (s ++ q) (negative (omega (arith, length-append s q)) (behind-declared s q h ∙ d))) ∙ sym (envelope-refused s (sym e))

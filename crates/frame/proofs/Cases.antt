@@ -8,6 +8,7 @@ use native.Mathlib.Omega.{arith}
 use borrow.Author.Tests.{lt-ltb, le-ltb, ltb-true, ltb-false}
 use lib.Dec.{ltb}
 use lib.ListN.{length, take}
+use Rattle.refusal.specs.Refusal.{Refusal, negativeLength, unknownVersion, unknownOpcode, tracingIdCutShort}
 use Rattle.types.specs.Answer.{Answer, got, refused}
 use Rattle.types.specs.Read.{Strings, strings, stringListAt}
 use Rattle.frame.specs.Header.{Header, headerOf, knownVersion, knownOpcode, hasWarnings}
@@ -17,11 +18,11 @@ use Rattle.basis.proofs.Fronts.{not-whole, refused-not-whole, whole-value}
 
 -- ---- how long an envelope is
 
-pub data Sizes (s : List ℕ) : Front ℕ → Type 0 where
+pub data Sizes (s : List ℕ) : Front Refusal ℕ → Type 0 where
   short : length s < 9 → Sizes s incomplete
-  negative : 9 ≤ length s → declared s ≡ none → Sizes s (refuses 8)
+  negative : 9 ≤ length s → declared s ≡ none → Sizes s (refuses negativeLength)
   cut : {n : ℕ} → 9 ≤ length s → declared s ≡ some n → length s < 9 + n → Sizes s incomplete
-  unknown : {n : ℕ} → declared s ≡ some n → 9 + n ≤ length s → knownVersion (headerOf s .version) ≡ false → Sizes s (refuses 9)
+  unknown : {n : ℕ} → declared s ≡ some n → 9 + n ≤ length s → knownVersion (headerOf s .version) ≡ false → Sizes s (refuses unknownVersion)
   fits : {n : ℕ} → declared s ≡ some n → 9 + n ≤ length s → knownVersion (headerOf s .version) ≡ true → Sizes s (whole (9 + n))
 
 module _ (s : List ℕ) where
@@ -29,25 +30,25 @@ module _ (s : List ℕ) where
   unfolding sizeOf
   from-nine h = ap (λ t. cond t incomplete (sized s (declared s))) (le-ltb (length s) 9 h)
 
-  judged : {n : ℕ} → declared s ≡ some n → 9 + n ≤ length s → sizeOf s ≡ cond (knownVersion (headerOf s .version)) (whole (9 + n)) (refuses 9)
+  judged : {n : ℕ} → declared s ≡ some n → 9 + n ≤ length s → sizeOf s ≡ cond (knownVersion (headerOf s .version)) (whole (9 + n)) (refuses unknownVersion)
   unfolding sized
   judged {n} e h =
       let nine : 9 ≤ length s = omega arith in
       from-nine nine ∙ ap (sized s) e ∙ rw (le-ltb (length s) (9 + n) h)
 
-  pub size-is : {f : Front ℕ} → Sizes s f → sizeOf s ≡ f
+  pub size-is : {f : Front Refusal ℕ} → Sizes s f → sizeOf s ≡ f
   unfolding sized sizeOf
   size-is (short h) = ap (λ t. cond t incomplete (sized s (declared s))) (lt-ltb (length s) 9 h)
   size-is (negative h e) = from-nine h ∙ ap (sized s) e
   size-is (cut {n} h e l) = from-nine h ∙ ap (sized s) e ∙ rw (lt-ltb (length s) (9 + n) l)
-  size-is (unknown {n} e h v) = judged e h ∙ ap (λ t. cond t (whole (9 + n)) (refuses 9)) v
-  size-is (fits {n} e h v) = judged e h ∙ ap (λ t. cond t (whole (9 + n)) (refuses 9)) v
+  size-is (unknown {n} e h v) = judged e h ∙ ap (λ t. cond t (whole (9 + n)) (refuses unknownVersion)) v
+  size-is (fits {n} e h v) = judged e h ∙ ap (λ t. cond t (whole (9 + n)) (refuses unknownVersion)) v
 
   pub size-case : Sizes s (sizeOf s)
   size-case = by-length (ltb (length s) 9) refl
     where
-      met : {f : Front ℕ} → Sizes s f → Sizes s (sizeOf s)
-      met {f} c = subst (λ (x : Front ℕ). Sizes s x) (sym (size-is c)) c
+      met : {f : Front Refusal ℕ} → Sizes s f → Sizes s (sizeOf s)
+      met {f} c = subst (λ (x : Front Refusal ℕ). Sizes s x) (sym (size-is c)) c
 
       by-version : (n : ℕ) → declared s ≡ some n → 9 + n ≤ length s → (t : Bool) → knownVersion (headerOf s .version) ≡ t → Sizes s (sizeOf s)
       by-version n e h true v = met (fits e h v)
@@ -67,37 +68,37 @@ module _ (s : List ℕ) where
 
 -- ---- what stands in the bytes of one envelope
 
-pub data Withins (s : List ℕ) (h : Header) : Front Envelope → Type 0 where
-  opcode-unknown : knownOpcode (h .opcode) ≡ false → Withins s h (refuses 10)
-  id-cut : knownOpcode (h .opcode) ≡ true → length s < afterId h → Withins s h (refuses 11)
-  warnings-bad : {number : ℕ} → knownOpcode (h .opcode) ≡ true → afterId h ≤ length s → warningsAt s h (afterId h) ≡ refused number → Withins s h (refuses number)
+pub data Withins (s : List ℕ) (h : Header) : Front Refusal Envelope → Type 0 where
+  opcode-unknown : knownOpcode (h .opcode) ≡ false → Withins s h (refuses unknownOpcode)
+  id-cut : knownOpcode (h .opcode) ≡ true → length s < afterId h → Withins s h (refuses tracingIdCutShort)
+  warnings-bad : {why : Refusal} → knownOpcode (h .opcode) ≡ true → afterId h ≤ length s → warningsAt s h (afterId h) ≡ refused why → Withins s h (refuses why)
   read : {ws : Strings} {next : ℕ} → knownOpcode (h .opcode) ≡ true → afterId h ≤ length s → warningsAt s h (afterId h) ≡ got ws next
       → Withins s h (whole (envelopeWith (length s) h ws next))
 
 module _ (s : List ℕ) (h : Header) where
-  known : knownOpcode (h .opcode) ≡ true → within s h ≡ cond (ltb (length s) (afterId h)) (refuses 11) (readAs (length s) h (warningsAt s h (afterId h)))
+  known : knownOpcode (h .opcode) ≡ true → within s h ≡ cond (ltb (length s) (afterId h)) (refuses tracingIdCutShort) (readAs (length s) h (warningsAt s h (afterId h)))
   unfolding within
-  known k = ap (λ t. cond t (cond (ltb (length s) (afterId h)) (refuses 11) (readAs (length s) h (warningsAt s h (afterId h)))) (refuses 10)) k
+  known k = ap (λ t. cond t (cond (ltb (length s) (afterId h)) (refuses tracingIdCutShort) (readAs (length s) h (warningsAt s h (afterId h)))) (refuses unknownOpcode)) k
 
   pub id-whole : knownOpcode (h .opcode) ≡ true → afterId h ≤ length s → within s h ≡ readAs (length s) h (warningsAt s h (afterId h))
-  id-whole k l = known k ∙ ap (λ t. cond t (refuses 11) (readAs (length s) h (warningsAt s h (afterId h)))) (le-ltb (length s) (afterId h) l)
+  id-whole k l = known k ∙ ap (λ t. cond t (refuses tracingIdCutShort) (readAs (length s) h (warningsAt s h (afterId h)))) (le-ltb (length s) (afterId h) l)
 
-  pub within-is : {f : Front Envelope} → Withins s h f → within s h ≡ f
+  pub within-is : {f : Front Refusal Envelope} → Withins s h f → within s h ≡ f
   unfolding within
-  within-is (opcode-unknown k) = ap (λ t. cond t (cond (ltb (length s) (afterId h)) (refuses 11) (readAs (length s) h (warningsAt s h (afterId h)))) (refuses 10)) k
-  within-is (id-cut k l) = known k ∙ ap (λ t. cond t (refuses 11) (readAs (length s) h (warningsAt s h (afterId h)))) (lt-ltb (length s) (afterId h) l)
+  within-is (opcode-unknown k) = ap (λ t. cond t (cond (ltb (length s) (afterId h)) (refuses tracingIdCutShort) (readAs (length s) h (warningsAt s h (afterId h)))) (refuses unknownOpcode)) k
+  within-is (id-cut k l) = known k ∙ ap (λ t. cond t (refuses tracingIdCutShort) (readAs (length s) h (warningsAt s h (afterId h)))) (lt-ltb (length s) (afterId h) l)
   within-is (warnings-bad k l e) = id-whole k l ∙ ap (readAs (length s) h) e
   within-is (read k l e) = id-whole k l ∙ ap (readAs (length s) h) e
 
   pub within-case : Withins s h (within s h)
   within-case = by-opcode (knownOpcode (h .opcode)) refl
     where
-      met : {f : Front Envelope} → Withins s h f → Withins s h (within s h)
-      met {f} c = subst (λ (x : Front Envelope). Withins s h x) (sym (within-is c)) c
+      met : {f : Front Refusal Envelope} → Withins s h f → Withins s h (within s h)
+      met {f} c = subst (λ (x : Front Refusal Envelope). Withins s h x) (sym (within-is c)) c
 
       by-warnings : knownOpcode (h .opcode) ≡ true → afterId h ≤ length s → (a : Answer Strings) → warningsAt s h (afterId h) ≡ a → Withins s h (within s h)
       by-warnings k l (got ws next) e = met (read k l e)
-      by-warnings k l (refused number) e = met (warnings-bad k l e)
+      by-warnings k l (refused why) e = met (warnings-bad k l e)
 
       by-id : knownOpcode (h .opcode) ≡ true → (t : Bool) → ltb (length s) (afterId h) ≡ t → Withins s h (within s h)
       by-id k true l = met (id-cut k (ltb-true (length s) (afterId h) l))
@@ -131,7 +132,7 @@ pub record Sized (s : List ℕ) (n : ℕ) : Type 0 where
 pub size-found : (s : List ℕ) (n : ℕ) → sizeOf s ≡ whole n → Sized s n
 size-found s n e = go (size-case s) e
   where
-    go : {f : Front ℕ} → Sizes s f → f ≡ whole n → Sized s n
+    go : {f : Front Refusal ℕ} → Sizes s f → f ≡ whole n → Sized s n
     go (short h) e = absurd (not-whole e)
     go (negative h d) e = absurd (refused-not-whole e)
     go (cut h d l) e = absurd (not-whole e)
@@ -141,12 +142,12 @@ size-found s n e = go (size-case s) e
 module _ (s : List ℕ) where
   pub envelope-unfinished : sizeOf s ≡ incomplete → envelope s ≡ incomplete
   unfolding envelope
-  envelope-unfinished e = ap (λ (f : Front ℕ). ifWhole f (λ n. inside (take n s))) e
+  envelope-unfinished e = ap (λ (f : Front Refusal ℕ). ifWhole f (λ n. inside (take n s))) e
 
-  pub envelope-refused : {number : ℕ} → sizeOf s ≡ refuses number → envelope s ≡ refuses number
+  pub envelope-refused : {why : Refusal} → sizeOf s ≡ refuses why → envelope s ≡ refuses why
   unfolding envelope
-  envelope-refused e = ap (λ (f : Front ℕ). ifWhole f (λ n. inside (take n s))) e
+  envelope-refused e = ap (λ (f : Front Refusal ℕ). ifWhole f (λ n. inside (take n s))) e
 
   pub envelope-inside : {n : ℕ} → sizeOf s ≡ whole n → envelope s ≡ inside (take n s)
   unfolding envelope
-  envelope-inside e = ap (λ (f : Front ℕ). ifWhole f (λ n. inside (take n s))) e
+  envelope-inside e = ap (λ (f : Front Refusal ℕ). ifWhole f (λ n. inside (take n s))) e

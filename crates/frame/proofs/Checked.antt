@@ -8,6 +8,7 @@ use native.Mathlib.Omega.{arith}
 use borrow.Author.Tests.{le-leb, lt-leb, leb-true}
 use lib.Dec.{leb}
 use lib.ListN.{length, length-append}
+use Rattle.refusal.specs.Refusal.{Refusal, notWritable}
 use Rattle.types.specs.Write.{fine, against, demand, cutBy, listBytes, lengthsFit, listCheck, maxShort}
 use Rattle.types.proofs.Put.{demanded, denied}
 use Rattle.types.proofs.Cut.{both-true, demand-fine, list-length}
@@ -57,16 +58,16 @@ unfolding tailBytes
 tail-length h c =
     length-append (idPart h (c .id)) _ ∙ ap (λ (k : ℕ). length (idPart h (c .id)) + k) (length-append (warningsPart h (c .text) (c .lens)) (c .body))
 
-either : (t : Bool) → demand t 15 (against 15) ≡ against 15
+either : (t : Bool) → demand t notWritable (against notWritable) ≡ against notWritable
 either true = refl
 either false = refl
 
-not-fine : {number : ℕ} → fine ≡ against number → ⊥
+not-fine : {why : Refusal} → fine ≡ against why → ⊥
 not-fine e = let z : _≡_ {A = ℕ} 0 1 = cc in omega arith
 
-unfit : (text lens : List ℕ) → lengthsFit (length text) lens ≡ false → listCheck text lens ≡ against 15
+unfit : (text lens : List ℕ) → lengthsFit (length text) lens ≡ false → listCheck text lens ≡ against notWritable
 unfolding listCheck
-unfit text lens e = ap (demand (leb (length lens) maxShort) 15) (denied 15 _ e) ∙ either (leb (length lens) maxShort)
+unfit text lens e = ap (demand (leb (length lens) maxShort) notWritable) (denied notWritable _ e) ∙ either (leb (length lens) maxShort)
 
 -- the length that the lengths of what is given add up to
 abbrev pub givenSize : Header → Content → ℕ
@@ -83,40 +84,40 @@ module _ (h : Header) (c : Content) where
       tail-length h c ∙ omega arith
 
   -- it is the length of the bytes, or the list is refused for its lengths
-  measured : (length (tailBytes h c) ≡ givenSize h c) ⊎ (warningsCheck h (c .text) (c .lens) ≡ against 15)
+  measured : (length (tailBytes h c) ≡ givenSize h c) ⊎ (warningsCheck h (c .text) (c .lens) ≡ against notWritable)
   measured = by-warnings (hasWarnings h) refl
     where
       by-lengths : hasWarnings h ≡ true → (t : Bool) → lengthsFit (length (c .text)) (c .lens) ≡ t
-          → (length (tailBytes h c) ≡ givenSize h c) ⊎ (warningsCheck h (c .text) (c .lens) ≡ against 15)
+          → (length (tailBytes h c) ≡ givenSize h c) ⊎ (warningsCheck h (c .text) (c .lens) ≡ against notWritable)
       by-lengths e true f = inl (by-parts true e (ap length (list-there h (c .text) (c .lens) e) ∙ list-length (c .text) (c .lens) f ∙ omega arith))
       by-lengths e false f = inr (check-there h (c .text) (c .lens) e ∙ unfit (c .text) (c .lens) f)
 
-      by-warnings : (t : Bool) → hasWarnings h ≡ t → (length (tailBytes h c) ≡ givenSize h c) ⊎ (warningsCheck h (c .text) (c .lens) ≡ against 15)
+      by-warnings : (t : Bool) → hasWarnings h ≡ t → (length (tailBytes h c) ≡ givenSize h c) ⊎ (warningsCheck h (c .text) (c .lens) ≡ against notWritable)
       by-warnings true e = by-lengths e (lengthsFit (length (c .text)) (c .lens)) refl
       by-warnings false e = inl (by-parts false e (ap length (list-none h (c .text) (c .lens) e)))
 
   -- ---- the ways through the checks
 
-  pub head-unfit : headFits h (length (c .id)) ≡ false → envelopeCheck h c ≡ against 15
+  pub head-unfit : headFits h (length (c .id)) ≡ false → envelopeCheck h c ≡ against notWritable
   unfolding envelopeCheck
-  head-unfit e = denied 15 _ e
+  head-unfit e = denied notWritable _ e
 
   module _ (fit : headFits h (length (c .id)) ≡ true) where
-    from-head : envelopeCheck h c ≡ demand (leb (length (tailBytes h c)) maxBody) 15 (warningsCheck h (c .text) (c .lens))
+    from-head : envelopeCheck h c ≡ demand (leb (length (tailBytes h c)) maxBody) notWritable (warningsCheck h (c .text) (c .lens))
     unfolding envelopeCheck
-    from-head = demanded 15 _ fit
+    from-head = demanded notWritable _ fit
 
     from-length : givenSize h c ≤ maxBody → length (tailBytes h c) ≡ givenSize h c → envelopeCheck h c ≡ warningsCheck h (c .text) (c .lens)
-    from-length small e = from-head ∙ demanded 15 _ (le-leb (length (tailBytes h c)) maxBody (omega arith))
+    from-length small e = from-head ∙ demanded notWritable _ (le-leb (length (tailBytes h c)) maxBody (omega arith))
 
-    refused-for-lengths : warningsCheck h (c .text) (c .lens) ≡ against 15 → envelopeCheck h c ≡ against 15
-    refused-for-lengths e = from-head ∙ ap (demand (leb (length (tailBytes h c)) maxBody) 15) e ∙ either (leb (length (tailBytes h c)) maxBody)
+    refused-for-lengths : warningsCheck h (c .text) (c .lens) ≡ against notWritable → envelopeCheck h c ≡ against notWritable
+    refused-for-lengths e = from-head ∙ ap (demand (leb (length (tailBytes h c)) maxBody) notWritable) e ∙ either (leb (length (tailBytes h c)) maxBody)
 
-    pub body-long : maxBody < givenSize h c → envelopeCheck h c ≡ against 15
+    pub body-long : maxBody < givenSize h c → envelopeCheck h c ≡ against notWritable
     body-long large =
-        ⊎-elim (λ e. from-head ∙ denied 15 _ (lt-leb (length (tailBytes h c)) maxBody (omega arith))) refused-for-lengths measured
+        ⊎-elim (λ e. from-head ∙ denied notWritable _ (lt-leb (length (tailBytes h c)) maxBody (omega arith))) refused-for-lengths measured
 
-    pub warnings-unfit : {number : ℕ} → givenSize h c ≤ maxBody → warningsCheck h (c .text) (c .lens) ≡ against number → envelopeCheck h c ≡ against number
+    pub warnings-unfit : {why : Refusal} → givenSize h c ≤ maxBody → warningsCheck h (c .text) (c .lens) ≡ against why → envelopeCheck h c ≡ against why
     warnings-unfit small bad = ⊎-elim (λ e. from-length small e ∙ bad) (λ e. refused-for-lengths e ∙ sym e ∙ bad) measured
 
     pub all-fit : givenSize h c ≤ maxBody → warningsCheck h (c .text) (c .lens) ≡ fine → Planned h c (givenSize h c)
@@ -138,8 +139,8 @@ pub fields-fit : (h : Header) (c : Content) → envelopeCheck h c ≡ fine → F
 unfolding envelopeCheck headFits flagsFit
 fields-fit h c e =
     let n = length (c .id) in
-    let head = demand-fine (headFits h n) 15 _ e in
-    let body = demand-fine (leb (length (tailBytes h c)) maxBody) 15 _ (head .1) in
+    let head = demand-fine (headFits h n) notWritable _ e in
+    let body = demand-fine (leb (length (tailBytes h c)) maxBody) notWritable _ (head .1) in
     let version = both-true (knownVersion (h .version)) _ (head .0) in
     let opcode = both-true (knownOpcode (h .opcode)) _ (version .1) in
     let flags = both-true (leb (h .flags) maxFlags) _ (opcode .1) in

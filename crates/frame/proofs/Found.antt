@@ -8,6 +8,7 @@ use lib.ListN.{length, take, drop, getD, length-append, take-append-drop}
 use lib.Seq.{getD-take, take-take, take-append-le, length-take-le}
 use mir.Syntax.{w32}
 use mir.Val.{toZ}
+use Rattle.refusal.specs.Refusal.{Refusal}
 use Rattle.types.specs.Answer.{got}
 use Rattle.types.specs.Number.{be, part}
 use Rattle.types.specs.Along.{Walks}
@@ -79,7 +80,7 @@ found-inside s n z p {e} q = go (within-case (take n s) (headerOf s)) q
     l : length (take n s) ≡ n
     l = length-take-le n s (omega (arith, z .is, z .room))
 
-    go : {f : Front Envelope} → Withins (take n s) (headerOf s) f → f ≡ whole e → Found s e
+    go : {f : Front Refusal Envelope} → Withins (take n s) (headerOf s) f → f ≡ whole e → Found s e
     go (opcode-unknown k) q = absurd (refused-not-whole q)
     go (id-cut k h) q = absurd (refused-not-whole q)
     go (warnings-bad k h w) q = absurd (refused-not-whole q)
@@ -92,9 +93,9 @@ pub found : (s : List ℕ) {e : Envelope} → envelope s ≡ whole e → Found s
 unfolding inside
 found s {e} q = go (sizeOf s) refl
   where
-    go : (f : Front ℕ) → sizeOf s ≡ f → Found s e
+    go : (f : Front Refusal ℕ) → sizeOf s ≡ f → Found s e
     go incomplete p = absurd (not-whole (sym (envelope-unfinished s p) ∙ q))
-    go (refuses number) p = absurd (refused-not-whole (sym (envelope-refused s p) ∙ q))
+    go (refuses why) p = absurd (refused-not-whole (sym (envelope-refused s p) ∙ q))
     go (whole n) p =
         let z : Sized s n = size-found s n p in
         found-inside s n z p

@@ -14,6 +14,7 @@ use mir.Syntax.{w16}
 use mir.Val.{ofZ}
 use mir.ValLaws.{ofZ-toZ}
 use Rattle.basis.specs.Bytes.{Bytes}
+use Rattle.refusal.specs.Refusal.{outputTooShort, notWritable}
 use Rattle.types.specs.Answer.{Answer, got, refused}
 use Rattle.types.specs.Number.{be, part, digits}
 use Rattle.types.specs.Read.{Place, place, Strings, bytesIn, stringsAt, textsIn, textsOf}
@@ -267,11 +268,11 @@ module _ (s : List ℕ) (b : Bytes s) {e : Envelope} (q : envelope s ≡ whole e
     check-forth : envelopeCheck h given ≡ fine
     unfolding envelopeCheck headFits flagsFit
     check-forth =
-        demanded 15 _
+        demanded notWritable _
         (ap₂ (λ (t u : Bool). t && (u && flagsFit h (length id-here))) (met .sized .version) (met .opcode)
         ∙ ap₂ (λ (t u : Bool). t && (u && warningFits h)) (le-leb (h .flags) maxFlags flags-low) (ided .fits)
         ∙ warning-forth)
-        ∙ demanded 15 _ (le-leb (length (tailBytes h given)) maxBody (omega (arith, tail-is, p .small)))
+        ∙ demanded notWritable _ (le-leb (length (tailBytes h given)) maxBody (omega (arith, tail-is, p .small)))
         ∙ warned .fits
 
 -- ---- read, then written
@@ -295,7 +296,7 @@ read-writes s b {e} q p out room w =
     let here : Holds (put out 0 bs) 0 bs = holds-put out 0 bs k in (
       w .says
           ∙ ap (λ (x : Check). written x out 0 bs) (a .check)
-          ∙ ap (λ (x : Bool). cond x (got (tt {0}) (0 + length bs)) (refused 14)) t
+          ∙ ap (λ (x : Bool). cond x (got (tt {0}) (0 + length bs)) (refused outputTooShort)) t
           ∙ ap (got (tt {0})) (zero-add (length bs) ∙ l),
       ap (take (e .size)) (w .leaves ∙ ap (λ (x : Check). output x out 0 bs) (a .check) ∙ ap (λ (x : Bool). cond x (put out 0 bs) out) t)
           ∙ ap (λ (m : ℕ). take m (put out 0 bs)) (sym l)

@@ -3,7 +3,8 @@ use Prim.Native.Nat.{ℕ}
 use mathlib.Core.Path.{_≡_, refl, ap}
 use mathlib.Core.Bool.{Bool, true, false}
 use Rattle.basis.proofs.Determined.{Tells}
-use Rattle.refusal.proofs.Numbers.{refusalOf, refusalOf-number}
+use Rattle.refusal.proofs.Numbers.{caseOf, caseOf-paper}
+use Rattle.refusal.specs.Refusal.{Refusal}
 use Rattle.frame.specs.Header.{Header}
 use Rattle.basis.specs.Front.{Front, incomplete, refuses, whole}
 use Rattle.frame.specs.Envelope.{Envelope}
@@ -58,30 +59,30 @@ envelope-told = record { back = envelopeFrom; is = envelope-is }
 
 -- ---- what stands at the front
 
-size-of : Front ℕ → Size
+size-of : Front Refusal ℕ → Size
 size-of incomplete = Size.Incomplete
-size-of (refuses number) = Size.Refused (refusalOf number)
+size-of (refuses why) = Size.Refused (caseOf why)
 size-of (whole n) = Size.Whole n
 
 size-is : (r : Size) → size-of (paperSize r) ≡ r
 unfolding size-of
 size-is Size.Incomplete = refl
 size-is (Size.Whole n) = refl
-size-is (Size.Refused e) = ap Size.Refused (refusalOf-number e)
+size-is (Size.Refused e) = ap Size.Refused (caseOf-paper e)
 
 pub size-told : Tells paperSize
 size-told = record { back = size-of; is = size-is }
 
-reading-of : Front Envelope → Reading
+reading-of : Front Refusal Envelope → Reading
 reading-of incomplete = Reading.Incomplete
-reading-of (refuses number) = Reading.Refused (refusalOf number)
+reading-of (refuses why) = Reading.Refused (caseOf why)
 reading-of (whole e) = Reading.Whole (envelopeFrom e)
 
 reading-is : (r : Reading) → reading-of (paperReading r) ≡ r
 unfolding reading-of
 reading-is Reading.Incomplete = refl
 reading-is (Reading.Whole e) = ap Reading.Whole (envelope-is e)
-reading-is (Reading.Refused e) = ap Reading.Refused (refusalOf-number e)
+reading-is (Reading.Refused e) = ap Reading.Refused (caseOf-paper e)
 
 pub reading-told : Tells paperReading
 reading-told = record { back = reading-of; is = reading-is }

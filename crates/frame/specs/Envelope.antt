@@ -9,6 +9,7 @@ use lib.ListN.{length, take}
 use mir.Syntax.{w32}
 use mir.Val.{toZ}
 use Rattle.basis.specs.Front.{Front, incomplete, refuses, whole, ifWhole}
+use Rattle.refusal.specs.Refusal.{Refusal, negativeLength, unknownVersion, unknownOpcode, tracingIdCutShort, refusalNumber}
 use Rattle.types.specs.Answer.{Answer, got, refused}
 use Rattle.types.specs.Number.{be, part}
 use Rattle.types.specs.Read.{Place, place, Strings, strings, bytesIn, natural, stringsAt, textsOf, stringListAt}
@@ -20,20 +21,20 @@ use Rattle.frame.specs.Header.{Header, headerLength, idLength, headerOf,
 unfoldable pub declared : List ℕ → Option ℕ
 declared s = natural (toZ w32 (be (part s 5 4)))
 
-unfoldable pub sized : List ℕ → Option ℕ → Front ℕ
-sized s none = refuses 8
+unfoldable pub sized : List ℕ → Option ℕ → Front Refusal ℕ
+sized s none = refuses negativeLength
 sized s (some n) =
     cond (ltb (length s) (headerLength + n)) incomplete
     (cond (knownVersion (headerOf s .version)) (whole (headerLength + n))
-    (refuses 9))
+    (refuses unknownVersion))
 
-unfoldable pub sizeOf : List ℕ → Front ℕ
+unfoldable pub sizeOf : List ℕ → Front Refusal ℕ
 sizeOf s = cond (ltb (length s) headerLength) incomplete (sized s (declared s))
 
 -- 4.13: the same as one number
-abbrev pub sizeNumber : Front ℕ → ℤ
+abbrev pub sizeNumber : Front Refusal ℕ → ℤ
 sizeNumber incomplete = pos 0
-sizeNumber (refuses number) = negℤ (pos number)
+sizeNumber (refuses why) = negℤ (pos (refusalNumber why))
 sizeNumber (whole size) = pos size
 
 -- ---- what it says
@@ -62,23 +63,23 @@ warningsAt s h at = cond (hasWarnings h) (stringListAt s at) (got (strings 0 at)
 abbrev pub envelopeWith : ℕ → Header → Strings → ℕ → Envelope
 envelopeWith size h warnings next = record { size = size; header = h; traced = hasId h; warnings = warnings; body = place next (size - next) }
 
-abbrev pub readAs : ℕ → Header → Answer Strings → Front Envelope
+abbrev pub readAs : ℕ → Header → Answer Strings → Front Refusal Envelope
 readAs size h (got warnings next) = whole (envelopeWith size h warnings next)
-readAs size h (refused number) = refuses number
+readAs size h (refused why) = refuses why
 
 -- s are the bytes of one envelope, no more and no fewer: 10, 11, then 12 or 13
-unfoldable pub within : List ℕ → Header → Front Envelope
+unfoldable pub within : List ℕ → Header → Front Refusal Envelope
 within s h =
     cond (knownOpcode (h .opcode))
-    (cond (ltb (length s) (afterId h)) (refuses 11)
+    (cond (ltb (length s) (afterId h)) (refuses tracingIdCutShort)
     (readAs (length s) h (warningsAt s h (afterId h))))
-    (refuses 10)
+    (refuses unknownOpcode)
 
-unfoldable pub inside : List ℕ → Front Envelope
+unfoldable pub inside : List ℕ → Front Refusal Envelope
 inside s = within s (headerOf s)
 
 -- 4.10
-unfoldable pub envelope : List ℕ → Front Envelope
+unfoldable pub envelope : List ℕ → Front Refusal Envelope
 envelope s = ifWhole (sizeOf s) (λ n. inside (take n s))
 
 -- ---- what its places hold, in bytes that begin with it

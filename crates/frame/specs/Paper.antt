@@ -1,7 +1,7 @@
 -- What each case of an answer means, and each value that is handed in. Assumes nothing.
 use Prim.Native.Nat.{ℕ}
 use mathlib.Core.Bool.{Bool, true, false}
-use Rattle.refusal.specs.Refusal.{numberOf}
+use Rattle.refusal.specs.Refusal.{Refusal, paperRefusal}
 use Rattle.types.specs.Paper.{placeOf, stringsOf}
 use Rattle.frame.specs.Header.{Header}
 use Rattle.basis.specs.Front.{Front, incomplete, refuses, whole}
@@ -29,12 +29,12 @@ paperEnvelope e =
       body = placeOf (e .body);
     }
 
-abbrev pub paperSize : Size → Front ℕ
+abbrev pub paperSize : Size → Front Refusal ℕ
 paperSize Size.Incomplete = incomplete
 paperSize (Size.Whole size) = whole size
-paperSize (Size.Refused e) = refuses (numberOf e)
+paperSize (Size.Refused e) = refuses (paperRefusal e)
 
-abbrev pub paperReading : Reading → Front Envelope
+abbrev pub paperReading : Reading → Front Refusal Envelope
 paperReading Reading.Incomplete = incomplete
 paperReading (Reading.Whole e) = whole (paperEnvelope e)
-paperReading (Reading.Refused e) = refuses (numberOf e)
+paperReading (Reading.Refused e) = refuses (paperRefusal e)

@@ -7,6 +7,7 @@ use lib.Dec.{leb, eqb}
 use lib.ListN.{length}
 use mir.Syntax.{w16}
 use mir.Val.{ofZ}
+use Rattle.refusal.specs.Refusal.{notWritable}
 use Rattle.types.specs.Number.{digits}
 use Rattle.types.specs.Write.{Check, fine, demand, cutBy, listBytes, listCheck}
 use Rattle.frame.specs.Header.{Header, idLength, knownVersion, knownOpcode, flag, hasId, hasWarnings}
@@ -78,8 +79,8 @@ warningsCheck h text lens = cond (hasWarnings h) (listCheck text lens) fine
 
 unfoldable pub envelopeCheck : Header → Content → Check
 envelopeCheck h c =
-    demand (headFits h (length (c .id))) 15
-    (demand (leb (length (tailBytes h c)) maxBody) 15
+    demand (headFits h (length (c .id))) notWritable
+    (demand (leb (length (tailBytes h c)) maxBody) notWritable
     (warningsCheck h (c .text) (c .lens)))
 
 -- ---- 11.1: what is read of them again

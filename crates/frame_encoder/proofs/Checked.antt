@@ -8,6 +8,7 @@ use native.Mathlib.Nat.{lt-of-not-le}
 use native.Mathlib.Omega.{arith}
 use borrow.Author.Tests.{le-leb, lt-leb, lt-ltb, le-ltb, leb-true, ltb-true, eqb-true}
 use lib.Dec.{leb, eqb}
+use Rattle.refusal.specs.Refusal.{Refusal, inadmissible, outputTooShort, envelopeDoesNotFit, segmentNotEmpty}
 use Rattle.types.specs.Write.{Check, fine, against}
 use Rattle.types.proofs.Cut.{demand-fine}
 use Rattle.segment.specs.Header.{lengths}
@@ -42,9 +43,9 @@ pub record AddFine (w : Writer) (room n : ℕ) : Type 0 where
 pub add-fine : (w : Writer) (room n : ℕ) → addCheck w room n ≡ fine → AddFine w room n
 unfolding addCheck
 add-fine w room n e =
-    let a = demand-fine (leb (w .payload) maxPayload) 1 _ e in
-    let b = demand-fine (fits w n) 16 _ (a .1) in
-    let c = demand-fine (roomFor w (w .payload + n) room) 14 fine (b .1) in
+    let a = demand-fine (leb (w .payload) maxPayload) inadmissible _ e in
+    let b = demand-fine (fits w n) envelopeDoesNotFit _ (a .1) in
+    let c = demand-fine (roomFor w (w .payload + n) room) outputTooShort fine (b .1) in
     record { small = fits-small w n (b .0); enough = leb-true (segmentLength (w .form) (w .payload + n)) room (c .0) }
 
 pub record FinishFine (w : Writer) (room : ℕ) : Type 0 where
@@ -54,8 +55,8 @@ pub record FinishFine (w : Writer) (room : ℕ) : Type 0 where
 pub finish-fine : (w : Writer) (room : ℕ) → finishCheck w room ≡ fine → FinishFine w room
 unfolding finishCheck
 finish-fine w room e =
-    let a = demand-fine (leb (w .payload) maxPayload) 1 _ e in
-    let c = demand-fine (roomFor w (w .payload) room) 14 fine (a .1) in
+    let a = demand-fine (leb (w .payload) maxPayload) inadmissible _ e in
+    let c = demand-fine (roomFor w (w .payload) room) outputTooShort fine (a .1) in
     record { small = leb-true (w .payload) maxPayload (a .0); enough = leb-true (segmentLength (w .form) (w .payload)) room (c .0) }
 
 pub record PieceFine (w : Writer) (room n : ℕ) : Type 0 where
@@ -65,9 +66,9 @@ pub record PieceFine (w : Writer) (room n : ℕ) : Type 0 where
 pub piece-fine : (w : Writer) (room n : ℕ) → pieceCheck w room n ≡ fine → PieceFine w room n
 unfolding pieceCheck
 piece-fine w room n e =
-    let a = demand-fine (leb (w .payload) maxPayload) 1 _ e in
-    let b = demand-fine (eqb (w .payload) 0) 17 _ (a .1) in
-    let c = demand-fine (roomFor w (pieceOf n) room) 14 fine (b .1) in
+    let a = demand-fine (leb (w .payload) maxPayload) inadmissible _ e in
+    let b = demand-fine (eqb (w .payload) 0) segmentNotEmpty _ (a .1) in
+    let c = demand-fine (roomFor w (pieceOf n) room) outputTooShort fine (b .1) in
     record { empty = eqb-true (w .payload) 0 (b .0); enough = leb-true (segmentLength (w .form) (pieceOf n)) room (c .0) }
 
 -- ---- the piece of an envelope
@@ -99,5 +100,5 @@ piece-some n some =
 pub unless-fine : {c : Check} (w : Writer) (out : List ℕ) (d : Done) → c ≡ fine → unless c w out d ≡ d
 unless-fine w out d e = ap (λ (c : Check). unless c w out d) e
 
-pub unless-against : {c : Check} {number : ℕ} (w : Writer) (out : List ℕ) (d : Done) → c ≡ against number → unless c w out d ≡ done w (refused number) out
+pub unless-against : {c : Check} {why : Refusal} (w : Writer) (out : List ℕ) (d : Done) → c ≡ against why → unless c w out d ≡ done w (refused why) out
 unless-against w out d e = ap (λ (c : Check). unless c w out d) e

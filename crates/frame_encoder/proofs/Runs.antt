@@ -9,6 +9,7 @@ use borrow.Author.Tests.{le-leb, eq-eqb}
 use lib.ListN.{length, take, drop, length-append, take-append-drop, length-drop}
 use lib.Seq.{length-take-le}
 use Rattle.basis.specs.Front.{whole}
+use Rattle.refusal.specs.Refusal.{Refusal, inadmissible, outputTooShort, segmentNotEmpty}
 use Rattle.types.specs.Number.{part}
 use Rattle.types.specs.Write.{put, Check, fine, against, joined}
 use Rattle.types.proofs.Put.{put-none, put-put, length-put, demanded}
@@ -24,14 +25,14 @@ use Rattle.frame_encoder.proofs.Laid.{segment-length, piece-laid}
 
 -- ---- a call that was accepted
 
-wrote-refused : {size taken number : ℕ} → refused number ≡ wrote size taken → ⊥
+wrote-refused : {size taken : ℕ} {why : Refusal} → refused why ≡ wrote size taken → ⊥
 wrote-refused e = let z : _≡_ {A = ℕ} 0 1 = cc in omega arith
 
 -- its check has passed, and it left what it should
 pub passed : (c : Check) (w : Writer) (out : List ℕ) (d : Done) {v : Writer} {size taken : ℕ} {end : List ℕ} → unless c w out d ≡ done v (wrote size taken) end
     → (c ≡ fine) × (d ≡ done v (wrote size taken) end)
 passed fine w out d e = (refl, e)
-passed (against number) w out d e = absurd (wrote-refused (ap (λ (x : Done). x .reply) e))
+passed (against why) w out d e = absurd (wrote-refused (ap (λ (x : Done). x .reply) e))
 
 -- the size that is answered
 sized : {v w : Writer} {m n a b : ℕ} {out end : List ℕ} → done v (wrote m a) out ≡ done w (wrote n b) end → n ≡ m
@@ -39,14 +40,14 @@ sized {m = m} e = sym (ap (λ (d : Done). size (d .reply)) e)
   where
     size : Reply → ℕ
     size (wrote n b) = n
-    size (refused number) = m
+    size (refused why) = m
 
 taken-is : {v w : Writer} {m n a b : ℕ} {out end : List ℕ} → done v (wrote m a) out ≡ done w (wrote n b) end → b ≡ a
 taken-is {a = a} e = sym (ap (λ (d : Done). taken (d .reply)) e)
   where
     taken : Reply → ℕ
     taken (wrote n b) = b
-    taken (refused number) = a
+    taken (refused why) = a
 
 -- ---- envelopes packed into a segment
 
@@ -169,9 +170,9 @@ module _ (f : Form) (out : List ℕ) (room : segmentLength f maxPayload ≤ leng
   piece-made envelope =
       let m = piece-most (length envelope) in
       unless-fine (fresh f) out _
-      (demanded 1 _ (le-leb 0 maxPayload (omega arith))
-      ∙ demanded 17 _ (eq-eqb 0 0 refl)
-      ∙ demanded 14 fine (le-leb (segmentLength f (pieceOf (length envelope))) (length out) (omega (arith, m .1))))
+      (demanded inadmissible _ (le-leb 0 maxPayload (omega arith))
+      ∙ demanded segmentNotEmpty _ (eq-eqb 0 0 refl)
+      ∙ demanded outputTooShort fine (le-leb (segmentLength f (pieceOf (length envelope))) (length out) (omega (arith, m .1))))
 
   split-by : (n : ℕ) (envelope : List ℕ) → length envelope ≤ n → (outputs : List (List ℕ)) × Split f envelope outputs
   split-by zero [] h = ([], all-sent)

@@ -3,7 +3,7 @@ use Prim.Native.Nat.{ℕ}
 use mathlib.Core.Path.{_≡_, refl, sym, ap, ap₂, _∙_}
 use mathlib.Core.List.{List}
 use Rattle.basis.proofs.Determined.{Tells}
-use Rattle.refusal.proofs.Numbers.{refusalOf, refusalOf-number}
+use Rattle.refusal.proofs.Numbers.{caseOf, caseOf-paper}
 use Rattle.segment.proofs.Told.{form-told}
 use Rattle.frame_encoder.specs.Writer.{Writer, Reply, wrote, refused, Done, done}
 use Rattle.frame_encoder.specs.Paper.{paperWriter, paperEncoded, paperStep}
@@ -23,12 +23,12 @@ encoder-told = record { back = encoderFrom; is = encoder-is }
 
 encodedFrom : Reply → Encoded
 encodedFrom (wrote size taken) = Encoded.Wrote size taken
-encodedFrom (refused number) = Encoded.Refused (refusalOf number)
+encodedFrom (refused why) = Encoded.Refused (caseOf why)
 
 encoded-is : (r : Encoded) → encodedFrom (paperEncoded r) ≡ r
 unfolding encodedFrom
 encoded-is (Encoded.Wrote size taken) = refl
-encoded-is (Encoded.Refused e) = ap Encoded.Refused (refusalOf-number e)
+encoded-is (Encoded.Refused e) = ap Encoded.Refused (caseOf-paper e)
 
 pub encoded-told : Tells paperEncoded
 encoded-told = record { back = encodedFrom; is = encoded-is }

@@ -1,7 +1,7 @@
 -- What the values and answers of the code mean. Assumes nothing.
 use mathlib.Core.List.{List}
 use Prim.Native.Nat.{ℕ}
-use Rattle.refusal.specs.Refusal.{numberOf}
+use Rattle.refusal.specs.Refusal.{paperRefusal}
 use Rattle.segment.specs.Paper.{paperForm}
 use Rattle.frame_encoder.specs.Writer.{Writer, writer, Reply, wrote, refused, Done, done}
 use Rattle.frame_encoder.specs.declared.FrameEncoder.{FrameEncoder}
@@ -13,7 +13,7 @@ paperWriter e = writer (paperForm (e .form)) (e .payload)
 
 abbrev pub paperEncoded : Encoded → Reply
 paperEncoded (Encoded.Wrote size taken) = wrote size taken
-paperEncoded (Encoded.Refused e) = refused (numberOf e)
+paperEncoded (Encoded.Refused e) = refused (paperRefusal e)
 
 -- a step, together with what the output then holds
 abbrev pub paperStep : Step → List ℕ → Done

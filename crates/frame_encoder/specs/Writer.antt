@@ -4,6 +4,7 @@ use mathlib.Core.Bool.{Bool, true, false, cond}
 use mathlib.Core.List.{List}
 use lib.Dec.{ltb, leb, eqb}
 use lib.ListN.{length, take}
+use Rattle.refusal.specs.Refusal.{Refusal, inadmissible, outputTooShort, envelopeDoesNotFit, segmentNotEmpty}
 use Rattle.types.specs.Number.{part}
 use Rattle.types.specs.Write.{put, Check, fine, against, demand}
 use Rattle.segment.specs.Header.{Form, headerLength, lengths}
@@ -20,10 +21,10 @@ writer form payload = record { form = form; payload = payload }
 abbrev pub fresh : Form → Writer
 fresh form = writer form 0
 
--- how many bytes were written, and of what was given how many went in; or the number of a refusal
+-- how many bytes were written, and of what was given how many went in; or a refusal
 pub data Reply : Type 0 where
   wrote : ℕ → ℕ → Reply
-  refused : ℕ → Reply
+  refused : Refusal → Reply
 
 -- a call's answer, and the writer and the output that it leaves
 pub record Done : Type 0 where
@@ -37,7 +38,7 @@ done after reply output = record { after = after; reply = reply; output = output
 -- a refusal leaves both as they were
 abbrev pub unless : Check → Writer → List ℕ → Done → Done
 unless fine w out d = d
-unless (against number) w out d = done w (refused number) out
+unless (against why) w out d = done w (refused why) out
 
 -- 8.2: payload so far and length together are below 131,072
 unfoldable pub fits : Writer → ℕ → Bool
@@ -51,9 +52,9 @@ roomFor w n room = leb (segmentLength (w .form) n) room
 
 unfoldable pub addCheck : Writer → ℕ → ℕ → Check
 addCheck w room n =
-    demand (leb (w .payload) maxPayload) 1
-    (demand (fits w n) 16
-    (demand (roomFor w (w .payload + n) room) 14 fine))
+    demand (leb (w .payload) maxPayload) inadmissible
+    (demand (fits w n) envelopeDoesNotFit
+    (demand (roomFor w (w .payload + n) room) outputTooShort fine))
 
 unfoldable pub add : Writer → List ℕ → List ℕ → Done
 add w out envelope =
@@ -64,8 +65,8 @@ add w out envelope =
 
 unfoldable pub finishCheck : Writer → ℕ → Check
 finishCheck w room =
-    demand (leb (w .payload) maxPayload) 1
-    (demand (roomFor w (w .payload) room) 14 fine)
+    demand (leb (w .payload) maxPayload) inadmissible
+    (demand (roomFor w (w .payload) room) outputTooShort fine)
 
 unfoldable pub finish : Writer → List ℕ → Done
 finish w out =
@@ -80,9 +81,9 @@ pieceOf n = cond (leb n maxPayload) n maxPayload
 
 unfoldable pub pieceCheck : Writer → ℕ → ℕ → Check
 pieceCheck w room n =
-    demand (leb (w .payload) maxPayload) 1
-    (demand (eqb (w .payload) 0) 17
-    (demand (roomFor w (pieceOf n) room) 14 fine))
+    demand (leb (w .payload) maxPayload) inadmissible
+    (demand (eqb (w .payload) 0) segmentNotEmpty
+    (demand (roomFor w (pieceOf n) room) outputTooShort fine))
 
 unfoldable pub piece : Writer → List ℕ → List ℕ → Done
 piece w out envelope =

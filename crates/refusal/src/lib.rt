@@ -1,6 +1,6 @@
 // Why a call was refused: a case for each number of docs/RULES.md, section 9.
 ghost use mathlib.Core.Path.{_≡_};
-ghost use Rattle.refusal.specs.Refusal.{numberOf};
+ghost use Rattle.refusal.specs.Refusal.{numberOf, refusalOf, paperNumbered};
 
 pub enum Refusal {
     // A lent length or a count in the state that was handed in is out of its range.
@@ -63,5 +63,37 @@ impl Refusal {
             Refusal::EnvelopeDoesNotFit => 16,
             Refusal::SegmentNotEmpty => 17,
         }
+    }
+}
+
+// What a number stands for.
+pub enum Numbered {
+    Stands(Refusal),
+    Nothing,
+}
+
+// The way back from a number.
+pub fn of_number(n: usize) -> Numbered
+    ensures { λ r. ⌜ paperNumbered r ≡ refusalOf n ⌝ }
+{
+    match n {
+        1 => Numbered::Stands(Refusal::Inadmissible),
+        2 => Numbered::Stands(Refusal::HeaderCheckDiffers),
+        3 => Numbered::Stands(Refusal::PayloadCompressed),
+        4 => Numbered::Stands(Refusal::SegmentTooLong),
+        5 => Numbered::Stands(Refusal::PayloadCheckDiffers),
+        6 => Numbered::Stands(Refusal::UnexpectedSelfContained),
+        7 => Numbered::Stands(Refusal::ReassemblyTooShort),
+        8 => Numbered::Stands(Refusal::NegativeLength),
+        9 => Numbered::Stands(Refusal::UnknownVersion),
+        10 => Numbered::Stands(Refusal::UnknownOpcode),
+        11 => Numbered::Stands(Refusal::TracingIdCutShort),
+        12 => Numbered::Stands(Refusal::PastEnd),
+        13 => Numbered::Stands(Refusal::NotUtf8),
+        14 => Numbered::Stands(Refusal::OutputTooShort),
+        15 => Numbered::Stands(Refusal::NotWritable),
+        16 => Numbered::Stands(Refusal::EnvelopeDoesNotFit),
+        17 => Numbered::Stands(Refusal::SegmentNotEmpty),
+        _ => Numbered::Nothing,
     }
 }

@@ -8,6 +8,7 @@ use lib.Dec.{ltb, eqb}
 use lib.ListN.{length, take}
 use Rattle.basis.specs.Front.{Front, incomplete, refuses, whole}
 use Rattle.crc.specs.Check32.{crc32}
+use Rattle.refusal.specs.Refusal.{Refusal, headerCheckDiffers, payloadCompressed, payloadCheckDiffers}
 use Rattle.types.specs.Number.{part}
 use Rattle.segment.specs.LittleEndian.{le}
 use Rattle.segment.specs.Header.{Form, Header, numberLength, headerLength, fieldsOf}
@@ -19,32 +20,32 @@ use Rattle.segment.specs.Segment.{trailerLength, checked, uncompressedOn
 abbrev pub fieldsAt : Form → List ℕ → Header
 fieldsAt f s = fieldsOf f (le (take (numberLength f) s))
 
-pub data Headers (f : Form) (s : List ℕ) : Front Header → Type 0 where
+pub data Headers (f : Form) (s : List ℕ) : Front Refusal Header → Type 0 where
   head-cut : length s < headerLength f → Headers f s incomplete
-  head-differs : headerLength f ≤ length s → checked f s ≡ false → Headers f s (refuses 2)
-  head-compressed : headerLength f ≤ length s → checked f s ≡ true → eqb (fieldsAt f s .uncompressed) 0 ≡ false → Headers f s (refuses 3)
+  head-differs : headerLength f ≤ length s → checked f s ≡ false → Headers f s (refuses headerCheckDiffers)
+  head-compressed : headerLength f ≤ length s → checked f s ≡ true → eqb (fieldsAt f s .uncompressed) 0 ≡ false → Headers f s (refuses payloadCompressed)
   head-good : headerLength f ≤ length s → checked f s ≡ true → eqb (fieldsAt f s .uncompressed) 0 ≡ true → Headers f s (whole (fieldsAt f s))
 
 module _ (f : Form) (s : List ℕ) where
-  there : headerLength f ≤ length s → headerAt f s ≡ cond (checked f s) (uncompressedOnly (fieldsAt f s)) (refuses 2)
+  there : headerLength f ≤ length s → headerAt f s ≡ cond (checked f s) (uncompressedOnly (fieldsAt f s)) (refuses headerCheckDiffers)
   unfolding headerAt
-  there h = ap (λ (t : Bool). cond t incomplete (cond (checked f s) (uncompressedOnly (fieldsAt f s)) (refuses 2))) (le-ltb (length s) (headerLength f) h)
+  there h = ap (λ (t : Bool). cond t incomplete (cond (checked f s) (uncompressedOnly (fieldsAt f s)) (refuses headerCheckDiffers))) (le-ltb (length s) (headerLength f) h)
 
   passed : headerLength f ≤ length s → checked f s ≡ true → headerAt f s ≡ uncompressedOnly (fieldsAt f s)
-  passed h c = there h ∙ ap (λ (t : Bool). cond t (uncompressedOnly (fieldsAt f s)) (refuses 2)) c
+  passed h c = there h ∙ ap (λ (t : Bool). cond t (uncompressedOnly (fieldsAt f s)) (refuses headerCheckDiffers)) c
 
-  pub header-is : {r : Front Header} → Headers f s r → headerAt f s ≡ r
+  pub header-is : {r : Front Refusal Header} → Headers f s r → headerAt f s ≡ r
   unfolding headerAt
-  header-is (head-cut h) = ap (λ (t : Bool). cond t incomplete (cond (checked f s) (uncompressedOnly (fieldsAt f s)) (refuses 2))) (lt-ltb (length s) (headerLength f) h)
-  header-is (head-differs h c) = there h ∙ ap (λ (t : Bool). cond t (uncompressedOnly (fieldsAt f s)) (refuses 2)) c
-  header-is (head-compressed h c u) = passed h c ∙ ap (λ (t : Bool). cond t (whole (fieldsAt f s)) (refuses 3)) u
-  header-is (head-good h c u) = passed h c ∙ ap (λ (t : Bool). cond t (whole (fieldsAt f s)) (refuses 3)) u
+  header-is (head-cut h) = ap (λ (t : Bool). cond t incomplete (cond (checked f s) (uncompressedOnly (fieldsAt f s)) (refuses headerCheckDiffers))) (lt-ltb (length s) (headerLength f) h)
+  header-is (head-differs h c) = there h ∙ ap (λ (t : Bool). cond t (uncompressedOnly (fieldsAt f s)) (refuses headerCheckDiffers)) c
+  header-is (head-compressed h c u) = passed h c ∙ ap (λ (t : Bool). cond t (whole (fieldsAt f s)) (refuses payloadCompressed)) u
+  header-is (head-good h c u) = passed h c ∙ ap (λ (t : Bool). cond t (whole (fieldsAt f s)) (refuses payloadCompressed)) u
 
   pub header-case : Headers f s (headerAt f s)
   header-case = by-length (ltb (length s) (headerLength f)) refl
     where
-      met : {r : Front Header} → Headers f s r → Headers f s (headerAt f s)
-      met {r} c = subst (λ (x : Front Header). Headers f s x) (sym (header-is c)) c
+      met : {r : Front Refusal Header} → Headers f s r → Headers f s (headerAt f s)
+      met {r} c = subst (λ (x : Front Refusal Header). Headers f s x) (sym (header-is c)) c
 
       by-compression : headerLength f ≤ length s → checked f s ≡ true → (t : Bool) → eqb (fieldsAt f s .uncompressed) 0 ≡ t → Headers f s (headerAt f s)
       by-compression h c true u = met (head-good h c u)
@@ -66,29 +67,29 @@ payloadIn f s h = part s (headerLength f) (h .payload)
 abbrev pub trailed : Form → List ℕ → Header → Bool
 trailed f s h = eqb (le (part s (headerLength f + h .payload) trailerLength)) (crc32 (payloadIn f s h))
 
-pub data Payloads (f : Form) (s : List ℕ) (h : Header) : Front Segment → Type 0 where
+pub data Payloads (f : Form) (s : List ℕ) (h : Header) : Front Refusal Segment → Type 0 where
   payload-cut : length s < segmentLength f (h .payload) → Payloads f s h incomplete
-  payload-differs : segmentLength f (h .payload) ≤ length s → trailed f s h ≡ false → Payloads f s h (refuses 5)
+  payload-differs : segmentLength f (h .payload) ≤ length s → trailed f s h ≡ false → Payloads f s h (refuses payloadCheckDiffers)
   payload-good : segmentLength f (h .payload) ≤ length s → trailed f s h ≡ true → Payloads f s h (whole (segment (h .self) (payloadIn f s h)))
 
 module _ (f : Form) (s : List ℕ) (h : Header) where
-  complete : segmentLength f (h .payload) ≤ length s → payloadAt f s h ≡ cond (trailed f s h) (whole (segment (h .self) (payloadIn f s h))) (refuses 5)
+  complete : segmentLength f (h .payload) ≤ length s → payloadAt f s h ≡ cond (trailed f s h) (whole (segment (h .self) (payloadIn f s h))) (refuses payloadCheckDiffers)
   unfolding payloadAt
   complete l =
-      ap (λ (t : Bool). cond t incomplete (cond (trailed f s h) (whole (segment (h .self) (payloadIn f s h))) (refuses 5))) (le-ltb (length s) (segmentLength f (h .payload)) l)
+      ap (λ (t : Bool). cond t incomplete (cond (trailed f s h) (whole (segment (h .self) (payloadIn f s h))) (refuses payloadCheckDiffers))) (le-ltb (length s) (segmentLength f (h .payload)) l)
 
-  pub payload-is : {r : Front Segment} → Payloads f s h r → payloadAt f s h ≡ r
+  pub payload-is : {r : Front Refusal Segment} → Payloads f s h r → payloadAt f s h ≡ r
   unfolding payloadAt
   payload-is (payload-cut l) =
-      ap (λ (t : Bool). cond t incomplete (cond (trailed f s h) (whole (segment (h .self) (payloadIn f s h))) (refuses 5))) (lt-ltb (length s) (segmentLength f (h .payload)) l)
-  payload-is (payload-differs l c) = complete l ∙ ap (λ (t : Bool). cond t (whole (segment (h .self) (payloadIn f s h))) (refuses 5)) c
-  payload-is (payload-good l c) = complete l ∙ ap (λ (t : Bool). cond t (whole (segment (h .self) (payloadIn f s h))) (refuses 5)) c
+      ap (λ (t : Bool). cond t incomplete (cond (trailed f s h) (whole (segment (h .self) (payloadIn f s h))) (refuses payloadCheckDiffers))) (lt-ltb (length s) (segmentLength f (h .payload)) l)
+  payload-is (payload-differs l c) = complete l ∙ ap (λ (t : Bool). cond t (whole (segment (h .self) (payloadIn f s h))) (refuses payloadCheckDiffers)) c
+  payload-is (payload-good l c) = complete l ∙ ap (λ (t : Bool). cond t (whole (segment (h .self) (payloadIn f s h))) (refuses payloadCheckDiffers)) c
 
   pub payload-case : Payloads f s h (payloadAt f s h)
   payload-case = by-length (ltb (length s) (segmentLength f (h .payload))) refl
     where
-      met : {r : Front Segment} → Payloads f s h r → Payloads f s h (payloadAt f s h)
-      met {r} c = subst (λ (x : Front Segment). Payloads f s h x) (sym (payload-is c)) c
+      met : {r : Front Refusal Segment} → Payloads f s h r → Payloads f s h (payloadAt f s h)
+      met {r} c = subst (λ (x : Front Refusal Segment). Payloads f s h x) (sym (payload-is c)) c
 
       by-check : segmentLength f (h .payload) ≤ length s → (t : Bool) → trailed f s h ≡ t → Payloads f s h (payloadAt f s h)
       by-check l true c = met (payload-good l c)

@@ -12,6 +12,7 @@ use Rattle.basis.specs.Front.{Front, incomplete, refuses, whole, ifWhole}
 use Rattle.basis.proofs.Fronts.{not-whole, refused-not-whole, whole-value}
 use Rattle.crc.specs.Check24.{crc24}
 use Rattle.crc.specs.Check32.{crc32}
+use Rattle.refusal.specs.Refusal.{Refusal}
 use Rattle.types.specs.Number.{part}
 use Rattle.types.proofs.BigEndian.{length-part, bytes-part, bytes-take}
 use Rattle.segment.specs.LittleEndian.{le, leDigits}
@@ -34,7 +35,7 @@ pub record HeaderFound (f : Form) (s : List ℕ) (h : Header) : Type 0 where
 pub header-found : (f : Form) (s : List ℕ) {h : Header} → headerAt f s ≡ whole h → HeaderFound f s h
 header-found f s {h} e = go (header-case f s) e
   where
-    go : {r : Front Header} → Headers f s r → r ≡ whole h → HeaderFound f s h
+    go : {r : Front Refusal Header} → Headers f s r → r ≡ whole h → HeaderFound f s h
     go (head-cut l) e = absurd (not-whole e)
     go (head-differs l c) e = absurd (refused-not-whole e)
     go (head-compressed l c u) e = absurd (refused-not-whole e)
@@ -66,7 +67,7 @@ module _ (f : Form) (s : List ℕ) (b : Bytes s) (unused : UnusedZero f s) where
   unfolding segmentAt segmentBytes
   segment-forth {g} e = by-header (headerAt f s) refl e
     where
-      by-payload : (h : Header) → headerAt f s ≡ whole h → {r : Front Segment} → Payloads f s h r → r ≡ whole g
+      by-payload : (h : Header) → headerAt f s ≡ whole h → {r : Front Refusal Segment} → Payloads f s h r → r ≡ whole g
           → headerBytes f (header (length (g .payload)) 0 (g .self)) ++ (g .payload ++ trailerBytes (g .payload)) ≡ take (segmentLength f (length (g .payload))) s
       by-payload h q (payload-cut l) e = absurd (not-whole e)
       by-payload h q (payload-differs l c) e = absurd (refused-not-whole e)
@@ -95,8 +96,8 @@ module _ (f : Form) (s : List ℕ) (b : Bytes s) (unused : UnusedZero f s) where
           subst (λ (x : Segment). headerBytes f (header (length (x .payload)) 0 (x .self)) ++ (x .payload ++ trailerBytes (x .payload)) ≡ take (segmentLength f (length (x .payload))) s) same
           (ap₂ (λ (x y : List ℕ). x ++ (p ++ y)) head trailer ∙ all ∙ ap (λ (x : ℕ). take (segmentLength f x) s) (sym lp))
 
-      by-header : (r : Front Header) → headerAt f s ≡ r → ifWhole r (payloadAt f s) ≡ whole g
+      by-header : (r : Front Refusal Header) → headerAt f s ≡ r → ifWhole r (payloadAt f s) ≡ whole g
           → headerBytes f (header (length (g .payload)) 0 (g .self)) ++ (g .payload ++ trailerBytes (g .payload)) ≡ take (segmentLength f (length (g .payload))) s
       by-header incomplete q e = absurd (not-whole e)
-      by-header (refuses number) q e = absurd (refused-not-whole e)
+      by-header (refuses why) q e = absurd (refused-not-whole e)
       by-header (whole h) q e = by-payload h q (payload-case f s h) e

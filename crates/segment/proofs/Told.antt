@@ -2,7 +2,8 @@
 use mathlib.Core.Path.{_≡_, refl, ap}
 use Rattle.basis.specs.Front.{Front, incomplete, refuses, whole}
 use Rattle.basis.proofs.Determined.{Tells}
-use Rattle.refusal.proofs.Numbers.{refusalOf, refusalOf-number}
+use Rattle.refusal.proofs.Numbers.{caseOf, caseOf-paper}
+use Rattle.refusal.specs.Refusal.{Refusal}
 use Rattle.segment.specs.Header.{Form, short, long, Header}
 use Rattle.segment.specs.Paper.{paperForm, paperHeader, paperReadHeader}
 use Rattle.segment.specs.declared.Form as code-form
@@ -31,16 +32,16 @@ header-is h = refl
 pub header-told : Tells paperHeader
 header-told = record { back = headerFrom; is = header-is }
 
-read-of : Front Header → ReadHeader
+read-of : Front Refusal Header → ReadHeader
 read-of incomplete = ReadHeader.Incomplete
-read-of (refuses number) = ReadHeader.Refused (refusalOf number)
+read-of (refuses why) = ReadHeader.Refused (caseOf why)
 read-of (whole h) = ReadHeader.Whole (headerFrom h)
 
 read-is : (r : ReadHeader) → read-of (paperReadHeader r) ≡ r
 unfolding read-of
 read-is ReadHeader.Incomplete = refl
 read-is (ReadHeader.Whole h) = ap ReadHeader.Whole (header-is h)
-read-is (ReadHeader.Refused e) = ap ReadHeader.Refused (refusalOf-number e)
+read-is (ReadHeader.Refused e) = ap ReadHeader.Refused (caseOf-paper e)
 
 pub read-header-told : Tells paperReadHeader
 read-header-told = record { back = read-of; is = read-is }

@@ -14,6 +14,7 @@ use Rattle.crc.specs.Check32.{crc32}
 use Rattle.crc.proofs.Check24.{crc24-below}
 use Rattle.crc.proofs.Check32.{crc32-below}
 use Rattle.basis.specs.Bytes.{Bytes}
+use Rattle.refusal.specs.Refusal.{Refusal}
 use Rattle.types.specs.Number.{part}
 use Rattle.types.specs.ThereAndBack.{Holds}
 use Rattle.types.proofs.Holds.{holds-left, holds-right}
@@ -96,7 +97,7 @@ module _ (f : Form) (self : Bool) (payload : List ℕ) (small : length payload �
       let r = holds-right s (headerLength f) payload (trailerBytes payload) rest-there in
       let l : length (trailerBytes payload) ≡ trailerLength = length-le trailerLength (crc32 payload) in
       let room : headerLength f + length payload + length (trailerBytes payload) ≤ length s = r .room in
-      ap (λ (x : Front Header). ifWhole x (payloadAt f s)) header-there
+      ap (λ (x : Front Refusal Header). ifWhole x (payloadAt f s)) header-there
       ∙ payload-is f s h
       (payload-good (omega arith)
       (eq-eqb (le (part s (headerLength f + length payload) trailerLength)) (crc32 (part s (headerLength f) (length payload)))

@@ -1,6 +1,6 @@
 -- What the values and answers of the code mean. Assumes nothing.
 use Rattle.basis.specs.Front.{Front, incomplete, refuses, whole}
-use Rattle.refusal.specs.Refusal.{numberOf}
+use Rattle.refusal.specs.Refusal.{Refusal, paperRefusal}
 use Rattle.segment.specs.Header.{Form, short, long, Header, header}
 use Rattle.segment.specs.declared.Form as code-form
 use Rattle.segment.specs.declared.Header as code-header
@@ -13,7 +13,7 @@ paperForm code-form.Form.Long = long
 abbrev pub paperHeader : code-header.Header → Header
 paperHeader h = header (h .payload) (h .uncompressed) (h .«self_contained»)
 
-abbrev pub paperReadHeader : ReadHeader → Front Header
+abbrev pub paperReadHeader : ReadHeader → Front Refusal Header
 paperReadHeader ReadHeader.Incomplete = incomplete
 paperReadHeader (ReadHeader.Whole h) = whole (paperHeader h)
-paperReadHeader (ReadHeader.Refused e) = refuses (numberOf e)
+paperReadHeader (ReadHeader.Refused e) = refuses (paperRefusal e)

@@ -7,6 +7,7 @@ use lib.ListN.{length, take}
 use Rattle.basis.specs.Front.{Front, incomplete, refuses, whole, ifWhole}
 use Rattle.crc.specs.Check24.{crc24}
 use Rattle.crc.specs.Check32.{crc32}
+use Rattle.refusal.specs.Refusal.{Refusal, headerCheckDiffers, payloadCompressed, payloadCheckDiffers}
 use Rattle.types.specs.Number.{part}
 use Rattle.segment.specs.LittleEndian.{le, leDigits}
 use Rattle.segment.specs.Header.{Form, Header, header, numberLength, checkLength, headerLength, fieldsOf, headerBytes}
@@ -30,18 +31,18 @@ segmentBytes form self payload = headerBytes form (header (length payload) 0 sel
 -- ---- read
 
 -- the payload is sent as it is where its length before compression is 0
-abbrev pub uncompressedOnly : Header → Front Header
-uncompressedOnly h = cond (eqb (h .uncompressed) 0) (whole h) (refuses 3)
+abbrev pub uncompressedOnly : Header → Front Refusal Header
+uncompressedOnly h = cond (eqb (h .uncompressed) 0) (whole h) (refuses payloadCompressed)
 
 -- the number's bytes, the check behind them, and the number
 abbrev pub checked : Form → List ℕ → Bool
 checked form s = eqb (le (part s (numberLength form) checkLength)) (crc24 (take (numberLength form) s))
 
-unfoldable pub headerAt : Form → List ℕ → Front Header
+unfoldable pub headerAt : Form → List ℕ → Front Refusal Header
 headerAt form s =
     cond (ltb (length s) (headerLength form)) incomplete
     (cond (checked form s) (uncompressedOnly (fieldsOf form (le (take (numberLength form) s))))
-    (refuses 2))
+    (refuses headerCheckDiffers))
 
 -- whether it stands alone, and its payload
 pub record Segment : Type 0 where
@@ -55,12 +56,12 @@ abbrev pub segmentLength : Form → ℕ → ℕ
 segmentLength form payload = headerLength form + payload + trailerLength
 
 -- behind a header: the payload, and its check
-unfoldable pub payloadAt : Form → List ℕ → Header → Front Segment
+unfoldable pub payloadAt : Form → List ℕ → Header → Front Refusal Segment
 payloadAt form s h =
     cond (ltb (length s) (segmentLength form (h .payload))) incomplete
     (cond (eqb (le (part s (headerLength form + h .payload) trailerLength)) (crc32 (part s (headerLength form) (h .payload))))
     (whole (segment (h .self) (part s (headerLength form) (h .payload))))
-    (refuses 5))
+    (refuses payloadCheckDiffers))
 
-unfoldable pub segmentAt : Form → List ℕ → Front Segment
+unfoldable pub segmentAt : Form → List ℕ → Front Refusal Segment
 segmentAt form s = ifWhole (headerAt form s) (payloadAt form s)

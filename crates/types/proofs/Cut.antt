@@ -9,6 +9,7 @@ use lib.ListN.{length, take, drop, getD, length-append, length-drop, drop-of-len
 use lib.Seq.{drop-cons, drop-drop, length-take-le}
 use lib.Dec.{leb, eqb}
 use borrow.Author.Tests.{le-leb, lt-leb, leb-true, eqb-true, eqb-false, eq-eqb, ne-eqb}
+use Rattle.refusal.specs.Refusal.{Refusal, notUtf8, notWritable}
 use Rattle.types.specs.Number.{digits, part}
 use Rattle.utf8.specs.Utf8.{utf8}
 use Rattle.types.specs.Write.{put, counted, maxShort, total, allShort, allUtf8, lengthsFit, cutBy, stringsBytes, listBytes, listCheck, Check, fine, demand}
@@ -178,14 +179,14 @@ pub record Writes (t ns : List ℕ) : Type 0 where
   pub lengths : lengthsFit (length t) ns ≡ true
   pub texts : allUtf8 (cutBy t ns) ≡ true
 
-pub demand-fine : (t : Bool) (number : ℕ) (rest : Check) → demand t number rest ≡ fine → (t ≡ true) × (rest ≡ fine)
-demand-fine true number rest e = (refl, e)
-demand-fine false number rest e = let z : _≡_ {A = ℕ} 0 1 = cc in let f : ⊥ = omega arith in absurd f
+pub demand-fine : (t : Bool) (why : Refusal) (rest : Check) → demand t why rest ≡ fine → (t ≡ true) × (rest ≡ fine)
+demand-fine true why rest e = (refl, e)
+demand-fine false why rest e = let z : _≡_ {A = ℕ} 0 1 = cc in let f : ⊥ = omega arith in absurd f
 
 pub writes : (t ns : List ℕ) → listCheck t ns ≡ fine → Writes t ns
 unfolding listCheck
 writes t ns e =
-    let a = demand-fine (leb (length ns) maxShort) 15 _ e in
-    let b = demand-fine (lengthsFit (length t) ns) 15 _ (a .1) in
-    let c = demand-fine (allUtf8 (cutBy t ns)) 13 fine (b .1) in
+    let a = demand-fine (leb (length ns) maxShort) notWritable _ e in
+    let b = demand-fine (lengthsFit (length t) ns) notWritable _ (a .1) in
+    let c = demand-fine (allUtf8 (cutBy t ns)) notUtf8 fine (b .1) in
     record { count = leb-true (length ns) maxShort (a .0); lengths = b .0; texts = c .0 }

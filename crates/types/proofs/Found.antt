@@ -13,6 +13,7 @@ use lib.ListN.{length}
 use mir.Syntax.{Width, w32}
 use mir.Val.{toZ}
 use borrow.Author.Tests.{leb-true}
+use Rattle.refusal.specs.Refusal.{Refusal, pastEnd, notUtf8}
 use Rattle.types.specs.Answer.{Answer, got, refused, andThen}
 use Rattle.types.specs.Number.{be, part}
 use Rattle.utf8.specs.Utf8.{utf8}
@@ -23,33 +24,33 @@ use Rattle.types.proofs.Reading.{natural-some, natural-none}
 -- ---- answers
 
 -- no value is a refusal
-pub got-refused : {A : Type 0} {v : A} {next n : ℕ} → refused n ≡ got v next → ⊥
+pub got-refused : {A : Type 0} {v : A} {next : ℕ} {why : Refusal} → refused why ≡ got v next → ⊥
 got-refused {A} e = let z : _≡_ {A = ℕ} 0 1 = ap (λ (a : Answer A). tag a) e in omega arith
   where
     tag : Answer A → ℕ
     tag (got v next) = 1
-    tag (refused n) = 0
+    tag (refused why) = 0
 
 pub got-value : {A : Type 0} {v w : A} {next end : ℕ} → got v next ≡ got w end → v ≡ w
 got-value {A} {v} e = ap (λ (a : Answer A). value a) e
   where
     value : Answer A → A
     value (got w end) = w
-    value (refused n) = v
+    value (refused why) = v
 
 pub got-next : {A : Type 0} {v w : A} {next end : ℕ} → got v next ≡ got w end → next ≡ end
 got-next {A} e = ap (λ (a : Answer A). position a) e
   where
     position : Answer A → ℕ
     position (got w end) = end
-    position (refused n) = 0
+    position (refused why) = 0
 
-pub refused-number : {A : Type 0} {d e : ℕ} → _≡_ {A = Answer A} (refused d) (refused e) → d ≡ e
-refused-number {A} r = ap (λ (a : Answer A). number a) r
+pub same-refusal : {A : Type 0} {d e : Refusal} → _≡_ {A = Answer A} (refused d) (refused e) → d ≡ e
+same-refusal {A} {d} r = ap (λ (a : Answer A). refusal a) r
   where
-    number : Answer A → ℕ
-    number (got w end) = 0
-    number (refused n) = n
+    refusal : Answer A → Refusal
+    refusal (got w end) = d
+    refusal (refused why) = why
 
 -- a value that was read behind something: what was read first, and then it
 pub record Behind {A B : Type 0} (a : Answer A) (f : A → ℕ → Answer B) (w : B) (end : ℕ) : Type 0 where
@@ -60,7 +61,7 @@ pub record Behind {A B : Type 0} (a : Answer A) (f : A → ℕ → Answer B) (w 
 
 pub behind : {A B : Type 0} (a : Answer A) (f : A → ℕ → Answer B) {w : B} {end : ℕ} → andThen a f ≡ got w end → Behind a f w end
 behind (got v next) f e = record { value = v; next = next; first = refl; then = e }
-behind (refused n) f e = absurd (got-refused e)
+behind (refused why) f e = absurd (got-refused e)
 
 -- a test, and what is answered where it holds
 record Passed {A : Type 0} (t : Bool) (v : A) (next : ℕ) (w : A) (end : ℕ) : Type 0 where
@@ -68,9 +69,9 @@ record Passed {A : Type 0} (t : Bool) (v : A) (next : ℕ) (w : A) (end : ℕ) :
   value : w ≡ v
   ends : end ≡ next
 
-passed : {A : Type 0} (t : Bool) (v : A) (next n : ℕ) {w : A} {end : ℕ} → cond t (got v next) (refused n) ≡ got w end → Passed t v next w end
-passed true v next n e = record { test = refl; value = sym (got-value e); ends = sym (got-next e) }
-passed false v next n e = absurd (got-refused e)
+passed : {A : Type 0} (t : Bool) (v : A) (next : ℕ) (why : Refusal) {w : A} {end : ℕ} → cond t (got v next) (refused why) ≡ got w end → Passed t v next w end
+passed true v next why e = record { test = refl; value = sym (got-value e); ends = sym (got-next e) }
+passed false v next why e = absurd (got-refused e)
 
 -- ---- notations
 
@@ -88,7 +89,7 @@ module _ (n : ℕ) (s : List ℕ) (at : ℕ) where
   pub number-found : {x end : ℕ} → numberAt n s at ≡ got x end → Found s at n (be (part s at n)) x end
   unfolding numberAt
   number-found e =
-      let p = passed (leb (at + n) (length s)) (be (part s at n)) (at + n) 12 e in
+      let p = passed (leb (at + n) (length s)) (be (part s at n)) (at + n) pastEnd e in
       record { room = leb-true (at + n) (length s) (p .test); value = p .value; ends = p .ends }
 
   pub signed-found : (w : Width) {z : ℤ} {end : ℕ} → signedAt w n s at ≡ got z end → Found s at n (toZ w (be (part s at n))) z end
@@ -100,7 +101,7 @@ module _ (n : ℕ) (s : List ℕ) (at : ℕ) where
   pub run-found : {p : Place} {end : ℕ} → runAt s n at ≡ got p end → Found s at n (place at n) p end
   unfolding runAt
   run-found e =
-      let p = passed (leb (at + n) (length s)) (place at n) (at + n) 12 e in
+      let p = passed (leb (at + n) (length s)) (place at n) (at + n) pastEnd e in
       record { room = leb-true (at + n) (length s) (p .test); value = p .value; ends = p .ends }
 
   pub record TextFound (p : Place) (end : ℕ) : Type 0 where
@@ -110,9 +111,9 @@ module _ (n : ℕ) (s : List ℕ) (at : ℕ) where
   pub text-found : {p : Place} {end : ℕ} → textAt s n at ≡ got p end → TextFound p end
   unfolding textAt
   text-found e =
-      let b = behind (runAt s n at) (λ p next. cond (utf8 (part s at n)) (got p next) (refused 13)) e in
+      let b = behind (runAt s n at) (λ p next. cond (utf8 (part s at n)) (got p next) (refused notUtf8)) e in
       let f = run-found (b .first) in
-      let p = passed (utf8 (part s at n)) (b .value) (b .next) 13 (b .then) in
+      let p = passed (utf8 (part s at n)) (b .value) (b .next) notUtf8 (b .then) in
       record { run = record { room = f .room; value = p .value ∙ f .value; ends = p .ends ∙ f .ends }; text = p .test }
 
 -- a count that is an [int]

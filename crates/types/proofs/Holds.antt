@@ -8,6 +8,7 @@ use lib.Dec.{leb}
 use lib.ListN.{length, take, drop, length-append, length-drop, take-append-drop}
 use lib.Seq.{take-take, take-add, take-append-seam, drop-append-seam, take-append-le, drop-append-le, drop-at, drop-drop, length-take-le}
 use borrow.Author.Tests.{le-leb, leb-true}
+use Rattle.refusal.specs.Refusal.{outputTooShort}
 use Rattle.types.specs.Answer.{Answer, got, refused}
 use Rattle.types.specs.Number.{part}
 use Rattle.types.specs.Read.{place, bytesIn}
@@ -111,10 +112,10 @@ holds-put out at bs h =
 
 -- what a writer leaves that answers a position
 pub accepted : (check : Check) {out : List ℕ} {at : ℕ} {bs left : List ℕ} {next : ℕ} → Wrote check out at bs (got tt next) left → Stands check at bs left next
-accepted (against number) w = let z : _≡_ {A = ℕ} 0 1 = cc (w .says) in let f : ⊥ = omega arith in absurd f
+accepted (against why) w = let z : _≡_ {A = ℕ} 0 1 = cc (w .says) in let f : ⊥ = omega arith in absurd f
 accepted fine {out} {at} {bs} {left} {next} w = go (leb (at + length bs) (length out)) refl (w .says) (w .leaves)
   where
-    go : (t : Bool) → leb (at + length bs) (length out) ≡ t → got (tt {0}) next ≡ cond t (got (tt {0}) (at + length bs)) (refused 14) → left ≡ cond t (put out at bs) out
+    go : (t : Bool) → leb (at + length bs) (length out) ≡ t → got (tt {0}) next ≡ cond t (got (tt {0}) (at + length bs)) (refused outputTooShort) → left ≡ cond t (put out at bs) out
         → Stands fine at bs left next
     go true p e q =
         let end : next ≡ at + length bs = cc in
@@ -130,7 +131,7 @@ pub wrote-there : {check : Check} {out : List ℕ} {at : ℕ} {bs : List ℕ} �
     → {answer : Answer Unit} {left : List ℕ} → Wrote check out at bs answer left → (answer ≡ got (tt {0}) (at + length bs)) × (left ≡ put out at bs)
 wrote-there {check} {out} {at} {bs} c h w =
     let f : leb (at + length bs) (length out) ≡ true = le-leb (at + length bs) (length out) h in (
-      w .says ∙ ap (λ (k : Check). written k out at bs) c ∙ ap (λ (t : Bool). cond t (got (tt {0}) (at + length bs)) (refused 14)) f,
+      w .says ∙ ap (λ (k : Check). written k out at bs) c ∙ ap (λ (t : Bool). cond t (got (tt {0}) (at + length bs)) (refused outputTooShort)) f,
       w .leaves ∙ ap (λ (k : Check). output k out at bs) c ∙ ap (λ (t : Bool). cond t (put out at bs) out) f,
     )
 

@@ -9,6 +9,7 @@ use lib.ListN.{length, take, drop, length-append, length-drop, take-append-drop}
 use lib.Seq.{take-at, drop-at, length-take-le}
 use borrow.Author.Tests.{le-leb, eqb-true}
 use Rattle.basis.specs.Bytes.{Bytes}
+use Rattle.refusal.specs.Refusal.{notUtf8, notWritable}
 use Rattle.types.specs.Answer.{got, andThen}
 use Rattle.types.specs.Number.{digits}
 use Rattle.utf8.specs.Utf8.{utf8}
@@ -30,7 +31,7 @@ AllFit [] = Unit {0}
 AllFit (t ∷ ts) = (textCheck maxShort t ≡ fine) × AllFit ts
 
 fits-check : (t : List ℕ) → length t ≤ maxShort → utf8 t ≡ true → textCheck maxShort t ≡ fine
-fits-check t h u = demanded 15 (demand (utf8 t) 13 fine) (le-leb (length t) maxShort h) ∙ demanded 13 fine u
+fits-check t h u = demanded notWritable (demand (utf8 t) notUtf8 fine) (le-leb (length t) maxShort h) ∙ demanded notUtf8 fine u
 
 -- ---- written, then read
 
@@ -149,9 +150,9 @@ all-utf8 (t ∷ ts) f =
 pub joined-check : (ts : List (List ℕ)) → AllFit ts → length ts ≤ maxShort → listCheck (joined ts) (lengthsOf ts) ≡ fine
 unfolding listCheck
 joined-check ts f h =
-    demanded 15 _ (le-leb (length (lengthsOf ts)) maxShort (subst (λ (k : ℕ). k ≤ maxShort) (sym (length-lengths ts)) h))
-    ∙ demanded 15 _ (joined-fit ts f)
-    ∙ demanded 13 fine (ap allUtf8 (cut-joined ts) ∙ all-utf8 ts f)
+    demanded notWritable _ (le-leb (length (lengthsOf ts)) maxShort (subst (λ (k : ℕ). k ≤ maxShort) (sym (length-lengths ts)) h))
+    ∙ demanded notWritable _ (joined-fit ts f)
+    ∙ demanded notUtf8 fine (ap allUtf8 (cut-joined ts) ∙ all-utf8 ts f)
 
 -- n strings that were read: their texts may be written, and stand where they were read
 pub record Read (s : List ℕ) (n at : ℕ) (ps : List Place) (end : ℕ) : Type 0 where

@@ -9,6 +9,7 @@ use native.Mathlib.Nat.{add-assoc, not-suc-le-zero, add-zero}
 use lib.Dec.{leb}
 use lib.ListN.{length, take, drop, set, length-append, length-drop, take-append-drop}
 use lib.Seq.{length-take-le, take-at, drop-at, drop-append-add, drop-drop, take-set-le, set-split, append-snoc, take-length, paste}
+use Rattle.refusal.specs.Refusal.{Refusal, outputTooShort}
 use Rattle.types.specs.Answer.{Answer, got, refused}
 use Rattle.types.specs.Number.{digits}
 use Rattle.types.specs.Write.{put, counted, Check, fine, against, demand, Wrote}
@@ -98,11 +99,11 @@ length-counted n t = length-append (digits n (length t)) t ∙ ap (λ (k : ℕ).
 -- ---- what a writer says and leaves
 
 -- what is demanded holds, or it does not
-pub demanded : {t : Bool} (number : ℕ) (rest : Check) → t ≡ true → demand t number rest ≡ rest
-demanded number rest e = ap (λ (t : Bool). demand t number rest) e
+pub demanded : {t : Bool} (why : Refusal) (rest : Check) → t ≡ true → demand t why rest ≡ rest
+demanded why rest e = ap (λ (t : Bool). demand t why rest) e
 
-pub denied : {t : Bool} (number : ℕ) (rest : Check) → t ≡ false → demand t number rest ≡ against number
-denied number rest e = ap (λ (t : Bool). demand t number rest) e
+pub denied : {t : Bool} (why : Refusal) (rest : Check) → t ≡ false → demand t why rest ≡ against why
+denied why rest e = ap (λ (t : Bool). demand t why rest) e
 
 module _ (out : List ℕ) (at : ℕ) (bs : List ℕ) (n : ℕ) (is : length bs ≡ n) where
   -- there is room
@@ -110,7 +111,7 @@ module _ (out : List ℕ) (at : ℕ) (bs : List ℕ) (n : ℕ) (is : length bs �
   wrote-all h e = record { says = simp (is, h); leaves = simp (is, h) e }
 
   -- there is none
-  pub wrote-none : leb (at + n) (length out) ≡ false → Wrote fine out at bs (refused 14) out
+  pub wrote-none : leb (at + n) (length out) ≡ false → Wrote fine out at bs (refused outputTooShort) out
   wrote-none h = record { says = simp (is, h); leaves = simp (is, h) }
 
 module _ {check : Check} {out : List ℕ} {at : ℕ} {bs : List ℕ} where
@@ -119,5 +120,5 @@ module _ {check : Check} {out : List ℕ} {at : ℕ} {bs : List ℕ} where
   wrote-fine e w = rw e w
 
   -- the check has not
-  pub wrote-against : {number : ℕ} → check ≡ against number → Wrote check out at bs (refused number) out
+  pub wrote-against : {why : Refusal} → check ≡ against why → Wrote check out at bs (refused why) out
   wrote-against h = rw h (record { says = refl; leaves = refl })

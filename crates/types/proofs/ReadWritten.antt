@@ -13,6 +13,7 @@ use mir.Val.{toZ, ofZ, Fits}
 use mir.ValLaws.{ofZ-toZ}
 use borrow.Author.Tests.{le-leb}
 use Rattle.basis.specs.Bytes.{Bytes}
+use Rattle.refusal.specs.Refusal.{notUtf8, notWritable}
 use Rattle.types.specs.Answer.{got}
 use Rattle.types.specs.Number.{be, part, digits}
 use Rattle.utf8.specs.Utf8.{utf8}
@@ -98,12 +99,12 @@ module _ (s : List ℕ) (b : Bytes s) (at n c : ℕ) (count : c ≡ be (part s a
       }
 
   pub count-fits : (limit : ℕ) → c ≤ limit → countCheck limit (bytesIn s p) ≡ fine
-  count-fits limit h = demanded 15 fine (le-leb (length (bytesIn s p)) limit (subst (λ (k : ℕ). k ≤ limit) (sym text-length) h))
+  count-fits limit h = demanded notWritable fine (le-leb (length (bytesIn s p)) limit (subst (λ (k : ℕ). k ≤ limit) (sym text-length) h))
 
   pub text-fits-too : (limit : ℕ) → c ≤ limit → utf8 (part s (at + n) c) ≡ true → textCheck limit (bytesIn s p) ≡ fine
   text-fits-too limit h u =
-      demanded 15 (demand (utf8 (bytesIn s p)) 13 fine) (le-leb (length (bytesIn s p)) limit (subst (λ (k : ℕ). k ≤ limit) (sym text-length) h))
-      ∙ demanded 13 fine (ap utf8 (found-bytes f) ∙ u)
+      demanded notWritable (demand (utf8 (bytesIn s p)) notUtf8 fine) (le-leb (length (bytesIn s p)) limit (subst (λ (k : ℕ). k ≤ limit) (sym text-length) h))
+      ∙ demanded notUtf8 fine (ap utf8 (found-bytes f) ∙ u)
 
 -- what was read behind a [short], or behind an [int] that counts
 module _ (s : List ℕ) (b : Bytes s) (at : ℕ) where

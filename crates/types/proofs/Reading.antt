@@ -13,6 +13,7 @@ use lib.ListN.{length}
 use mir.Syntax.{Width, w32}
 use mir.Val.{toZ, bits, hbits, sel}
 use mir.ValLaws.{toZ-pos}
+use Rattle.refusal.specs.Refusal.{Refusal, pastEnd, notUtf8}
 use Rattle.types.specs.Answer.{Answer, got, refused, andThen}
 use Rattle.types.specs.Number.{be, part}
 use Rattle.utf8.specs.Utf8.{utf8}
@@ -23,48 +24,48 @@ use Rattle.types.specs.Private.Inside.{endOf}
 pub then-got : {A B : Type 0} {a : Answer A} (f : A → ℕ → Answer B) {v : A} {next : ℕ} → a ≡ got v next → andThen a f ≡ f v next
 then-got f e = ap (λ a. andThen a f) e
 
-pub then-refused : {A B : Type 0} {a : Answer A} (f : A → ℕ → Answer B) {n : ℕ} → a ≡ refused n → andThen a f ≡ refused n
+pub then-refused : {A B : Type 0} {a : Answer A} (f : A → ℕ → Answer B) {e : Refusal} → a ≡ refused e → andThen a f ≡ refused e
 then-refused f e = ap (λ a. andThen a f) e
 
 module _ (n : ℕ) (s : List ℕ) (at : ℕ) where
   pub number-read : leb (at + n) (length s) ≡ true → numberAt n s at ≡ got (be (part s at n)) (at + n)
   unfolding numberAt
-  number-read h = ap (λ t. cond t (got (be (part s at n)) (at + n)) (refused 12)) h
+  number-read h = ap (λ t. cond t (got (be (part s at n)) (at + n)) (refused pastEnd)) h
 
-  pub number-past : leb (at + n) (length s) ≡ false → numberAt n s at ≡ refused 12
+  pub number-past : leb (at + n) (length s) ≡ false → numberAt n s at ≡ refused pastEnd
   unfolding numberAt
-  number-past h = ap (λ t. cond t (got (be (part s at n)) (at + n)) (refused 12)) h
+  number-past h = ap (λ t. cond t (got (be (part s at n)) (at + n)) (refused pastEnd)) h
 
   pub signed-read : (w : Width) → leb (at + n) (length s) ≡ true → signedAt w n s at ≡ got (toZ w (be (part s at n))) (at + n)
   unfolding signedAt
   signed-read w h = then-got (λ x next. got (toZ w x) next) (number-read h)
 
-  pub signed-past : (w : Width) → leb (at + n) (length s) ≡ false → signedAt w n s at ≡ refused 12
+  pub signed-past : (w : Width) → leb (at + n) (length s) ≡ false → signedAt w n s at ≡ refused pastEnd
   unfolding signedAt
   signed-past w h = then-refused (λ x next. got (toZ w x) next) (number-past h)
 
   pub run-read : leb (at + n) (length s) ≡ true → runAt s n at ≡ got (place at n) (at + n)
   unfolding runAt
-  run-read h = ap (λ t. cond t (got (place at n) (at + n)) (refused 12)) h
+  run-read h = ap (λ t. cond t (got (place at n) (at + n)) (refused pastEnd)) h
 
-  pub run-past : leb (at + n) (length s) ≡ false → runAt s n at ≡ refused 12
+  pub run-past : leb (at + n) (length s) ≡ false → runAt s n at ≡ refused pastEnd
   unfolding runAt
-  run-past h = ap (λ t. cond t (got (place at n) (at + n)) (refused 12)) h
+  run-past h = ap (λ t. cond t (got (place at n) (at + n)) (refused pastEnd)) h
 
   -- the text is there: UTF-8 or not
-  text-judged : leb (at + n) (length s) ≡ true → textAt s n at ≡ cond (utf8 (part s at n)) (got (place at n) (at + n)) (refused 13)
+  text-judged : leb (at + n) (length s) ≡ true → textAt s n at ≡ cond (utf8 (part s at n)) (got (place at n) (at + n)) (refused notUtf8)
   unfolding textAt
-  text-judged h = then-got (λ p next. cond (utf8 (part s at n)) (got p next) (refused 13)) (run-read h)
+  text-judged h = then-got (λ p next. cond (utf8 (part s at n)) (got p next) (refused notUtf8)) (run-read h)
 
   pub text-read : leb (at + n) (length s) ≡ true → utf8 (part s at n) ≡ true → textAt s n at ≡ got (place at n) (at + n)
-  text-read h u = text-judged h ∙ ap (λ t. cond t (got (place at n) (at + n)) (refused 13)) u
+  text-read h u = text-judged h ∙ ap (λ t. cond t (got (place at n) (at + n)) (refused notUtf8)) u
 
-  pub text-not : leb (at + n) (length s) ≡ true → utf8 (part s at n) ≡ false → textAt s n at ≡ refused 13
-  text-not h u = text-judged h ∙ ap (λ t. cond t (got (place at n) (at + n)) (refused 13)) u
+  pub text-not : leb (at + n) (length s) ≡ true → utf8 (part s at n) ≡ false → textAt s n at ≡ refused notUtf8
+  text-not h u = text-judged h ∙ ap (λ t. cond t (got (place at n) (at + n)) (refused notUtf8)) u
 
-  pub text-past : leb (at + n) (length s) ≡ false → textAt s n at ≡ refused 12
+  pub text-past : leb (at + n) (length s) ≡ false → textAt s n at ≡ refused pastEnd
   unfolding textAt
-  text-past h = then-refused (λ p next. cond (utf8 (part s at n)) (got p next) (refused 13)) (run-past h)
+  text-past h = then-refused (λ p next. cond (utf8 (part s at n)) (got p next) (refused notUtf8)) (run-past h)
 
   -- the bytes of a place
   pub bytes-there : leb (at + n) (length s) ≡ true → bytesIn s (place at n) ≡ part s at n
@@ -85,7 +86,7 @@ pub natural-none : (w : Width) (x : ℕ) → 2 ^ hbits w ≤ x → natural (toZ 
 natural-none w x h = ap (λ t. natural (sel t (pos x) (negsuc (2 ^ bits w - suc x)))) (le-ltb x (2 ^ hbits w) h)
 
 module _ (s : List ℕ) (at : ℕ) where
-  pub count-past : leb (at + 4) (length s) ≡ false → countAt s at ≡ refused 12
+  pub count-past : leb (at + 4) (length s) ≡ false → countAt s at ≡ refused pastEnd
   unfolding countAt
   count-past h = then-refused (λ z next. got (natural z) next) (signed-past 4 s at w32 h)
 
@@ -105,7 +106,7 @@ module _ (s : List ℕ) (n start : ℕ) where
   unfolding listed
   listed-end e = then-end (stringsAt s n start) (strings n start) ∙ then-got (λ u next. got (strings n start) next) e
 
-  pub listed-refused : {e : ℕ} → endOf (stringsAt s n start) ≡ refused e → listed s n start ≡ refused e
+  pub listed-refused : {e : Refusal} → endOf (stringsAt s n start) ≡ refused e → listed s n start ≡ refused e
   unfolding listed
   listed-refused e = then-end (stringsAt s n start) (strings n start) ∙ then-refused (λ u next. got (strings n start) next) e
 
@@ -124,7 +125,7 @@ module _ (s : List ℕ) where
       ∙ ap (λ (k : ℕ). endOf (stringsAt s k next)) (sym (sub-one (suc n)))
 
   -- the first is refused: so are all
-  pub strings-stop : (n at : ℕ) {e : ℕ} → 0 < n → stringAt s at ≡ refused e → endOf (stringsAt s n at) ≡ refused e
+  pub strings-stop : (n at : ℕ) {e : Refusal} → 0 < n → stringAt s at ≡ refused e → endOf (stringsAt s n at) ≡ refused e
   unfolding stringsAt
   strings-stop zero at h e = absurd (not-suc-le-zero h)
   strings-stop (suc n) at h e = ap endOf (then-refused (λ p next. andThen (stringsAt s n next) (λ ps end. got (p ∷ ps) end)) e)
@@ -142,7 +143,7 @@ module _ (s : List ℕ) where
   step-go (suc n) at {p} {next} h e =
       then-got (λ p next. got (some (p, n)) next) e ∙ ap (λ (k : ℕ). got (some (p, k)) next) (sym (sub-one (suc n)))
 
-  pub step-stop : (n at : ℕ) {e : ℕ} → 0 < n → stringAt s at ≡ refused e → stepAt s n at ≡ refused e
+  pub step-stop : (n at : ℕ) {e : Refusal} → 0 < n → stringAt s at ≡ refused e → stepAt s n at ≡ refused e
   unfolding stepAt
   step-stop zero at h e = absurd (not-suc-le-zero h)
   step-stop (suc n) at h e = then-refused (λ p next. got (some (p, n)) next) e

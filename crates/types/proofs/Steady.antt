@@ -15,13 +15,14 @@ use lib.Seq.{take-take, take-add, take-append-le, take-all, drop-at, length-take
 use mir.Syntax.{Width, w32, w64}
 use mir.Val.{toZ}
 use borrow.Author.Tests.{le-leb, leb-true}
+use Rattle.refusal.specs.Refusal.{Refusal, negativeLength, pastEnd}
 use Rattle.types.specs.Answer.{Answer, got, refused, andThen}
 use Rattle.types.specs.Number.{be, part}
 use Rattle.utf8.specs.Utf8.{utf8}
 use Rattle.types.specs.Read.{Place, numberAt, signedAt, byteAt, shortAt, intAt, longAt, runAt, textAt, uuidAt, natural, countAt, longText, nullableRun, shortBytesAt, stringAt, longStringAt, bytesAt, strings, stringsAt, listed, stringListAt}
 use Rattle.types.specs.Steady.{Local, Steady}
 use Rattle.types.proofs.Reading.{then-got, then-refused, number-read, number-past, run-read, run-past, text-read, text-not, text-past}
-use Rattle.types.proofs.Found.{got-refused, got-next, refused-number, behind, number-found, run-found, text-found}
+use Rattle.types.proofs.Found.{got-refused, got-next, same-refusal, behind, number-found, run-found, text-found}
 
 -- ---- parts
 
@@ -65,7 +66,7 @@ module _ {A : Type 0} (read : List ℕ → ℕ → Answer A) (steady : Steady re
       steady .local .same s (take next s ++ q) at e
       (take-append-le next (take next s) q (omega arith) ∙ take-take next next s (le-refl next)) (omega arith)
 
-  pub appended-refused : {e : ℕ} → read s at ≡ refused e → (e ≡ 12 → ⊥) → (q : List ℕ) → read (s ++ q) at ≡ refused e
+  pub appended-refused : {e : Refusal} → read s at ≡ refused e → (e ≡ pastEnd → ⊥) → (q : List ℕ) → read (s ++ q) at ≡ refused e
   appended-refused p n q = ⊎-elim (λ t. absurd (n t)) (λ r. r) (steady .local .firm s q at p)
 
   -- the first k bytes alone
@@ -81,10 +82,10 @@ module _ {A : Type 0} (read : List ℕ → ℕ → Answer A) (steady : Steady re
       (steady .local .same (take k s) s at e (sym (take-take next k s l)) m, l)
 
   -- some of what was read is cut off
-  pub cut-off : {v : A} {next : ℕ} → read s at ≡ got v next → (k : ℕ) → k < next → read (take k s) at ≡ refused 12
+  pub cut-off : {v : A} {next : ℕ} → read s at ≡ got v next → (k : ℕ) → k < next → read (take k s) at ≡ refused pastEnd
   cut-off {v} {next} e k h = by-answer (read (take k s) at) refl
     where
-      by-answer : (a : Answer A) → read (take k s) at ≡ a → a ≡ refused 12
+      by-answer : (a : Answer A) → read (take k s) at ≡ a → a ≡ refused pastEnd
       by-answer (got w m) p =
           let f = same-front k p in
           let z : m ≡ next = got-next (sym (f .0) ∙ e) in
@@ -93,11 +94,11 @@ module _ {A : Type 0} (read : List ℕ → ℕ → Answer A) (steady : Steady re
       by-answer (refused d) p =
           ⊎-elim (λ t. ap refused t) (λ r. absurd (got-refused (sym r ∙ ap (λ (x : List ℕ). read x at) (front k) ∙ e))) (steady .local .firm (take k s) (drop k s) at p)
 
-  -- and where the whole is refused, what is left is refused with 12 or with the same number
-  pub cut-off-refused : {e : ℕ} → read s at ≡ refused e → (k : ℕ) → (read (take k s) at ≡ refused 12) ⊎ (read (take k s) at ≡ refused e)
+  -- and where the whole is refused, what is left is refused with 12 or with the same refusal
+  pub cut-off-refused : {e : Refusal} → read s at ≡ refused e → (k : ℕ) → (read (take k s) at ≡ refused pastEnd) ⊎ (read (take k s) at ≡ refused e)
   cut-off-refused {e} q k = by-answer (read (take k s) at) refl
     where
-      by-answer : (a : Answer A) → read (take k s) at ≡ a → (a ≡ refused 12) ⊎ (a ≡ refused e)
+      by-answer : (a : Answer A) → read (take k s) at ≡ a → (a ≡ refused pastEnd) ⊎ (a ≡ refused e)
       by-answer (got w m) p = absurd (got-refused (sym q ∙ same-front k p .0))
       by-answer (refused d) p =
           ⊎-elim (λ t. inl (ap refused t)) (λ r. inr (sym r ∙ ap (λ (x : List ℕ). read x at) (front k) ∙ q)) (steady .local .firm (take k s) (drop k s) at p)
@@ -119,11 +120,11 @@ local-map {A} {B} {read} f l =
       firm = λ s q at {e} r. firm-by s q at e (read s at) refl r;
     }
   where
-    firm-by : (s q : List ℕ) (at e : ℕ) (a : Answer A) → read s at ≡ a → andThen a (λ v next. got (f at v) next) ≡ refused e
-        → (e ≡ 12) ⊎ (andThen (read (s ++ q) at) (λ v next. got (f at v) next) ≡ refused e)
+    firm-by : (s q : List ℕ) (at : ℕ) (e : Refusal) (a : Answer A) → read s at ≡ a → andThen a (λ v next. got (f at v) next) ≡ refused e
+        → (e ≡ pastEnd) ⊎ (andThen (read (s ++ q) at) (λ v next. got (f at v) next) ≡ refused e)
     firm-by s q at e (got v next) p r = absurd (got-refused (sym r))
     firm-by s q at e (refused d) p r =
-        let z : d ≡ e = refused-number r in
+        let z : d ≡ e = same-refusal r in
         ⊎-elim (λ t. inl (sym z ∙ t)) (λ t. inr (then-refused (λ v next. got (f at v) next) t ∙ ap refused z)) (l .firm s q at p)
 
 -- one behind the other
@@ -151,12 +152,12 @@ local-then {A} {B} {read} {more} r l =
         let b = behind (read s at) (λ v next. more v s next) e in
         l (b .value) .inside s (b .next) (r .bounded s at (b .first)) (b .then)
 
-    firm-by : (s q : List ℕ) (at e : ℕ) (a : Answer A) → read s at ≡ a → andThen a (λ v next. more v s next) ≡ refused e
-        → (e ≡ 12) ⊎ (andThen (read (s ++ q) at) (λ v next. more v (s ++ q) next) ≡ refused e)
+    firm-by : (s q : List ℕ) (at : ℕ) (e : Refusal) (a : Answer A) → read s at ≡ a → andThen a (λ v next. more v s next) ≡ refused e
+        → (e ≡ pastEnd) ⊎ (andThen (read (s ++ q) at) (λ v next. more v (s ++ q) next) ≡ refused e)
     firm-by s q at e (got v next) p f =
         ⊎-elim inl (λ t. inr (then-got (λ v next. more v (s ++ q) next) (appended read r s at p q) ∙ t)) (l v .firm s q next f)
     firm-by s q at e (refused d) p f =
-        let z : d ≡ e = refused-number f in
+        let z : d ≡ e = same-refusal f in
         ⊎-elim (λ t. inl (sym z ∙ t)) (λ t. inr (then-refused (λ v next. more v (s ++ q) next) t ∙ ap refused z)) (r .local .firm s q at p)
 
 steady-map : {A B : Type 0} {read : List ℕ → ℕ → Answer A} (f : ℕ → A → B) → Steady read → Steady (λ s at. andThen (read s at) (λ v next. got (f at v) next))
@@ -188,8 +189,8 @@ local-none v =
       firm = λ s q at r. absurd (got-refused (sym r));
     }
 
-local-refused : {A : Type 0} (n : ℕ) → Local {A = A} (λ s at. refused n)
-local-refused n =
+local-refused : {A : Type 0} (why : Refusal) → Local {A = A} (λ s at. refused why)
+local-refused why =
     record {
       on = λ s at e. absurd (got-refused e);
       inside = λ s at h e. absurd (got-refused e);
@@ -204,7 +205,7 @@ record Fixed {A : Type 0} (n : ℕ) (read : List ℕ → ℕ → Answer A) : Typ
   room : (s : List ℕ) (at : ℕ) {v : A} {end : ℕ} → read s at ≡ got v end → at + n ≤ length s
   ends : (s : List ℕ) (at : ℕ) {v : A} {end : ℕ} → read s at ≡ got v end → end ≡ at + n
   again : (s t : List ℕ) (at : ℕ) {v : A} {end : ℕ} → read s at ≡ got v end → at + n ≤ length t → part t at n ≡ part s at n → read t at ≡ got v end
-  firm : (s q : List ℕ) (at : ℕ) {e : ℕ} → read s at ≡ refused e → (e ≡ 12) ⊎ (read (s ++ q) at ≡ refused e)
+  firm : (s q : List ℕ) (at : ℕ) {e : Refusal} → read s at ≡ refused e → (e ≡ pastEnd) ⊎ (read (s ++ q) at ≡ refused e)
 
 steady-fixed : {A : Type 0} {n : ℕ} {read : List ℕ → ℕ → Answer A} → Fixed n read → Steady read
 steady-fixed {A} {n} {read} f =
@@ -233,9 +234,9 @@ steady-number n =
       firm = λ s q at {e} r. by-room s q at e (leb (at + n) (length s)) refl r;
     })
   where
-    by-room : (s q : List ℕ) (at e : ℕ) (t : Bool) → leb (at + n) (length s) ≡ t → numberAt n s at ≡ refused e → (e ≡ 12) ⊎ (numberAt n (s ++ q) at ≡ refused e)
+    by-room : (s q : List ℕ) (at : ℕ) (e : Refusal) (t : Bool) → leb (at + n) (length s) ≡ t → numberAt n s at ≡ refused e → (e ≡ pastEnd) ⊎ (numberAt n (s ++ q) at ≡ refused e)
     by-room s q at e true p r = absurd (got-refused (sym r ∙ number-read n s at p))
-    by-room s q at e false p r = inl (refused-number (sym r ∙ number-past n s at p))
+    by-room s q at e false p r = inl (same-refusal (sym r ∙ number-past n s at p))
 
 pub steady-run : (n : ℕ) → Steady (λ s at. runAt s n at)
 steady-run n =
@@ -249,9 +250,9 @@ steady-run n =
       firm = λ s q at {e} r. by-room s q at e (leb (at + n) (length s)) refl r;
     })
   where
-    by-room : (s q : List ℕ) (at e : ℕ) (t : Bool) → leb (at + n) (length s) ≡ t → runAt s n at ≡ refused e → (e ≡ 12) ⊎ (runAt (s ++ q) n at ≡ refused e)
+    by-room : (s q : List ℕ) (at : ℕ) (e : Refusal) (t : Bool) → leb (at + n) (length s) ≡ t → runAt s n at ≡ refused e → (e ≡ pastEnd) ⊎ (runAt (s ++ q) n at ≡ refused e)
     by-room s q at e true p r = absurd (got-refused (sym r ∙ run-read n s at p))
-    by-room s q at e false p r = inl (refused-number (sym r ∙ run-past n s at p))
+    by-room s q at e false p r = inl (same-refusal (sym r ∙ run-past n s at p))
 
 pub steady-text : (n : ℕ) → Steady (λ s at. textAt s n at)
 steady-text n =
@@ -265,9 +266,9 @@ steady-text n =
       firm = λ s q at {e} r. by-room s q at e (leb (at + n) (length s)) refl (utf8 (part s at n)) refl r;
     })
   where
-    by-room : (s q : List ℕ) (at e : ℕ) (t : Bool) → leb (at + n) (length s) ≡ t → (u : Bool) → utf8 (part s at n) ≡ u → textAt s n at ≡ refused e
-        → (e ≡ 12) ⊎ (textAt (s ++ q) n at ≡ refused e)
-    by-room s q at e false p u z r = inl (refused-number (sym r ∙ text-past n s at p))
+    by-room : (s q : List ℕ) (at : ℕ) (e : Refusal) (t : Bool) → leb (at + n) (length s) ≡ t → (u : Bool) → utf8 (part s at n) ≡ u → textAt s n at ≡ refused e
+        → (e ≡ pastEnd) ⊎ (textAt (s ++ q) n at ≡ refused e)
+    by-room s q at e false p u z r = inl (same-refusal (sym r ∙ text-past n s at p))
     by-room s q at e true p true z r = absurd (got-refused (sym r ∙ text-read n s at p z))
     by-room s q at e true p false z r =
         let h : at + n ≤ length s = leb-true (at + n) (length s) p in
@@ -307,7 +308,7 @@ unfolding stringAt
 steady-string = steady-then steady-short (λ n. steady-text n .local)
 
 local-long-text : (c : Option ℕ) → Local (λ s at. longText s c at)
-local-long-text none = local-refused 8
+local-long-text none = local-refused negativeLength
 local-long-text (some n) = steady-text n .local
 
 pub steady-long-string : Steady longStringAt

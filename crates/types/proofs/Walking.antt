@@ -5,11 +5,12 @@ use mathlib.Core.List.{List, [], _∷_}
 use mathlib.Core.Option.{Option, none, some, Option·getD}
 use native.Mathlib.Omega.{arith}
 use lib.ListN.{length}
+use Rattle.refusal.specs.Refusal.{Refusal}
 use Rattle.types.specs.Answer.{Answer, got, refused, andThen}
 use Rattle.types.specs.Read.{Place, Strings, strings, shortAt, stringAt, stringsAt, listed, stringListAt, stepAt}
 use Rattle.types.specs.Along.{Walks, ends, stops, meets}
 use Rattle.types.proofs.Reading.{then-got, then-refused}
-use Rattle.types.proofs.Found.{behind, got-value, got-next, got-refused, refused-number}
+use Rattle.types.proofs.Found.{behind, got-value, got-next, got-refused, same-refusal}
 
 -- n strings that are read are met one after the other, and no other
 pub walk-read : (s : List ℕ) (n at : ℕ) {ps : List Place} {end : ℕ} → stringsAt s n at ≡ got ps end → Walks s n at ps (got tt end) × (length ps ≡ n)
@@ -23,26 +24,26 @@ walk-read s (suc n) at {ps} {end} e =
     subst (λ (qs : List Place). Walks s (suc n) at qs (got tt end) × (length qs ≡ suc n)) (got-value (k .then))
     (meets (then-got (λ p next. got (some (p, n)) next) (h .first)) (i .0), ap suc (i .1))
 
--- where they are refused, so is the walk, with the same number
-module _ (s : List ℕ) (n at number : ℕ) (rest : (next : ℕ) → stringsAt s n next ≡ refused number → (ps : List Place) × Walks s n next ps (refused number)) where
+-- where they are refused, so is the walk, with the same refusal
+module _ (s : List ℕ) (n at : ℕ) (why : Refusal) (rest : (next : ℕ) → stringsAt s n next ≡ refused why → (ps : List Place) × Walks s n next ps (refused why)) where
   refused-behind : {p : Place} {next : ℕ} → stringAt s at ≡ got p next → (r : Answer (List Place)) → stringsAt s n next ≡ r
-      → andThen r (λ ps end. got (p ∷ ps) end) ≡ refused number → (ps : List Place) × Walks s (suc n) at ps (refused number)
+      → andThen r (λ ps end. got (p ∷ ps) end) ≡ refused why → (ps : List Place) × Walks s (suc n) at ps (refused why)
   unfolding stepAt
   refused-behind f (got ps end) q e = absurd (got-refused (sym e))
   refused-behind {p} {next} f (refused d) q e =
-      let i = rest next (q ∙ ap refused (refused-number e)) in
+      let i = rest next (q ∙ ap refused (same-refusal e)) in
       (p ∷ i .0, meets (then-got (λ p next. got (some (p, n)) next) f) (i .1))
 
-  refused-from : (a : Answer Place) → stringAt s at ≡ a → andThen a (λ p next. andThen (stringsAt s n next) (λ ps end. got (p ∷ ps) end)) ≡ refused number
-      → (ps : List Place) × Walks s (suc n) at ps (refused number)
+  refused-from : (a : Answer Place) → stringAt s at ≡ a → andThen a (λ p next. andThen (stringsAt s n next) (λ ps end. got (p ∷ ps) end)) ≡ refused why
+      → (ps : List Place) × Walks s (suc n) at ps (refused why)
   unfolding stepAt
   refused-from (got p next) f e = refused-behind f (stringsAt s n next) refl e
-  refused-from (refused d) f e = ([], stops (then-refused (λ p next. got (some (p, n)) next) (f ∙ ap refused (refused-number e))))
+  refused-from (refused d) f e = ([], stops (then-refused (λ p next. got (some (p, n)) next) (f ∙ ap refused (same-refusal e))))
 
-pub walk-refused : (s : List ℕ) (n at : ℕ) {number : ℕ} → stringsAt s n at ≡ refused number → (ps : List Place) × Walks s n at ps (refused number)
+pub walk-refused : (s : List ℕ) (n at : ℕ) {why : Refusal} → stringsAt s n at ≡ refused why → (ps : List Place) × Walks s n at ps (refused why)
 unfolding stringsAt
 walk-refused s zero at e = absurd (got-refused (sym e))
-walk-refused s (suc n) at {number} e = refused-from s n at number (λ next f. walk-refused s n next f) (stringAt s at) refl e
+walk-refused s (suc n) at {why} e = refused-from s n at why (λ next f. walk-refused s n next f) (stringAt s at) refl e
 
 -- the strings of a list that is read
 pub list-strings : (s : List ℕ) (at : ℕ) {n start end : ℕ} → stringListAt s at ≡ got (strings n start) end → (ps : List Place) × (stringsAt s n start ≡ got ps end)
@@ -74,7 +75,7 @@ walk-once s (ends p) (ends q) = (refl, ap (got tt) (got-next (sym p ∙ q)))
 walk-once s (ends p) (stops q) = absurd (got-refused (sym q ∙ p))
 walk-once s (ends p) (meets q w) = absurd (none-some (got-value (sym p ∙ q)))
 walk-once s (stops p) (ends q) = absurd (got-refused (sym p ∙ q))
-walk-once s (stops p) (stops q) = (refl, ap refused (refused-number (sym p ∙ q)))
+walk-once s (stops p) (stops q) = (refl, ap refused (same-refusal (sym p ∙ q)))
 walk-once s (stops p) (meets q w) = absurd (got-refused (sym p ∙ q))
 walk-once s (meets p v) (ends q) = absurd (none-some (got-value (sym q ∙ p)))
 walk-once s (meets p v) (stops q) = absurd (got-refused (sym q ∙ p))

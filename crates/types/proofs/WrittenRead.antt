@@ -13,6 +13,7 @@ use mir.Syntax.{Width, w32, w64}
 use mir.Val.{toZ, ofZ, SFits}
 use mir.ValLaws.{toZ-ofZ, ofZ-fits}
 use borrow.Author.Tests.{le-leb, leb-true}
+use Rattle.refusal.specs.Refusal.{notUtf8, notWritable}
 use Rattle.types.specs.Answer.{Answer, got, andThen}
 use Rattle.types.specs.Number.{be, part, digits}
 use Rattle.utf8.specs.Utf8.{utf8}
@@ -89,7 +90,7 @@ module _ (n : ℕ) (t : List ℕ) (s : List ℕ) (at : ℕ) where
 
 -- what the two checks say
 counts : (limit : ℕ) (t : List ℕ) → countCheck limit t ≡ fine → length t ≤ limit
-counts limit t c = leb-true (length t) limit (demand-fine (leb (length t) limit) 15 fine c .0)
+counts limit t c = leb-true (length t) limit (demand-fine (leb (length t) limit) notWritable fine c .0)
 
 pub record TextFits (limit : ℕ) (t : List ℕ) : Type 0 where
   pub short : length t ≤ limit
@@ -97,8 +98,8 @@ pub record TextFits (limit : ℕ) (t : List ℕ) : Type 0 where
 
 pub text-fits : (limit : ℕ) (t : List ℕ) → textCheck limit t ≡ fine → TextFits limit t
 text-fits limit t c =
-    let a = demand-fine (leb (length t) limit) 15 (demand (utf8 t) 13 fine) c in
-    record { short = leb-true (length t) limit (a .0); text = demand-fine (utf8 t) 13 fine (a .1) .0 }
+    let a = demand-fine (leb (length t) limit) notWritable (demand (utf8 t) notUtf8 fine) c in
+    record { short = leb-true (length t) limit (a .0); text = demand-fine (utf8 t) notUtf8 fine (a .1) .0 }
 
 short-count : (t : List ℕ) (s : List ℕ) (at : ℕ) → length t ≤ maxShort → Holds s at (counted 2 t) → shortAt s at ≡ got (length t) (at + 2)
 short-count t s at f h = short-back (length t) (omega arith) s at (held-count 2 t s at h) ∙ ap (λ (k : ℕ). got (length t) (at + k)) (length-digits 2 (length t))

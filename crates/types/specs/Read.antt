@@ -10,6 +10,7 @@ use lib.IntN.{ℤ, pos, negsuc}
 use lib.ListN.{length}
 use mir.Syntax.{Width, w32, w64}
 use mir.Val.{toZ}
+use Rattle.refusal.specs.Refusal.{negativeLength, pastEnd, notUtf8}
 use Rattle.types.specs.Answer.{Answer, got, refused, andThen}
 use Rattle.types.specs.Number.{be, part}
 use Rattle.utf8.specs.Utf8.{utf8}
@@ -38,7 +39,7 @@ strings count start = record { count = count; start = start }
 
 -- an unsigned number of n bytes
 unfoldable pub numberAt : ℕ → List ℕ → ℕ → Answer ℕ
-numberAt n s at = cond (leb (at + n) (length s)) (got (be (part s at n)) (at + n)) (refused 12)
+numberAt n s at = cond (leb (at + n) (length s)) (got (be (part s at n)) (at + n)) (refused pastEnd)
 
 -- a signed number of n bytes, w wide: two's complement
 unfoldable pub signedAt : Width → ℕ → List ℕ → ℕ → Answer ℤ
@@ -61,11 +62,11 @@ longAt = signedAt w64 8
 
 -- n bytes, whatever they are
 unfoldable pub runAt : List ℕ → ℕ → ℕ → Answer Place
-runAt s n at = cond (leb (at + n) (length s)) (got (place at n) (at + n)) (refused 12)
+runAt s n at = cond (leb (at + n) (length s)) (got (place at n) (at + n)) (refused pastEnd)
 
 -- n bytes of UTF-8
 unfoldable pub textAt : List ℕ → ℕ → ℕ → Answer Place
-textAt s n at = andThen (runAt s n at) (λ p next. cond (utf8 (part s at n)) (got p next) (refused 13))
+textAt s n at = andThen (runAt s n at) (λ p next. cond (utf8 (part s at n)) (got p next) (refused notUtf8))
 
 -- [uuid]
 abbrev pub uuidAt : List ℕ → ℕ → Answer Place
@@ -90,7 +91,7 @@ countAt s at = andThen (intAt s at) (λ z next. got (natural z) next)
 -- [long string]: a negative count is refused
 abbrev pub longText : List ℕ → Option ℕ → ℕ → Answer Place
 longText s (some n) at = textAt s n at
-longText s none at = refused 8
+longText s none at = refused negativeLength
 
 unfoldable pub longStringAt : List ℕ → ℕ → Answer Place
 longStringAt s at = andThen (countAt s at) (longText s)
@@ -118,7 +119,7 @@ textsIn s (p ∷ ps) = bytesIn s p ∷ textsIn s ps
 -- and those of strings as they were read: none where they were refused
 abbrev pub textsOf : List ℕ → Answer (List Place) → List (List ℕ)
 textsOf s (got ps next) = textsIn s ps
-textsOf s (refused number) = []
+textsOf s (refused why) = []
 
 -- [string list]
 unfoldable pub listed : List ℕ → ℕ → ℕ → Answer Strings

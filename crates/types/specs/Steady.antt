@@ -4,6 +4,7 @@ use mathlib.Core.Path.{_≡_}
 use mathlib.Core.Logic.{_⊎_}
 use mathlib.Core.List.{List, _++_}
 use lib.ListN.{length, take}
+use Rattle.refusal.specs.Refusal.{Refusal, pastEnd}
 use Rattle.types.specs.Answer.{Answer, got, refused}
 
 -- from a position within the bytes
@@ -14,7 +15,7 @@ pub record Local {A : Type 0} (read : List ℕ → ℕ → Answer A) : Type 0 wh
   -- only what stands before the next position matters
   pub same : (s t : List ℕ) (at : ℕ) {v : A} {next : ℕ} → read s at ≡ got v next → take next t ≡ take next s → next ≤ length t → read t at ≡ got v next
   -- a refusal but 12 stays with more bytes behind
-  pub firm : (s q : List ℕ) (at : ℕ) {e : ℕ} → read s at ≡ refused e → (e ≡ 12) ⊎ (read (s ++ q) at ≡ refused e)
+  pub firm : (s q : List ℕ) (at : ℕ) {e : Refusal} → read s at ≡ refused e → (e ≡ pastEnd) ⊎ (read (s ++ q) at ≡ refused e)
 
 -- from any position
 pub record Steady {A : Type 0} (read : List ℕ → ℕ → Answer A) : Type 0 where

@@ -8,6 +8,7 @@ use mathlib.Core.Option.{Option, none, some}
 use lib.Dec.{leb, eqb}
 use lib.ListN.{length, take, drop}
 unfoldable pub use Rattle.basis.specs.Lists.{joined}
+use Rattle.refusal.specs.Refusal.{Refusal, notUtf8, outputTooShort, notWritable}
 use Rattle.types.specs.Answer.{Answer, got, refused}
 use Rattle.types.specs.Number.{digits}
 use Rattle.utf8.specs.Utf8.{utf8}
@@ -16,25 +17,25 @@ use Rattle.utf8.specs.Utf8.{utf8}
 unfoldable pub put : List ℕ → ℕ → List ℕ → List ℕ
 put out at bs = take at out ++ bs ++ drop (at + length bs) out
 
--- what speaks against writing something: nothing, or the number of a refusal
+-- what speaks against writing something: nothing, or a refusal
 pub data Check : Type 0 where
   fine : Check
-  against : ℕ → Check
+  against : Refusal → Check
 
--- the number unless the test holds; then what else there is
-abbrev pub demand : Bool → ℕ → Check → Check
-demand true number rest = rest
-demand false number rest = against number
+-- the refusal unless the test holds; then what else there is
+abbrev pub demand : Bool → Refusal → Check → Check
+demand true why rest = rest
+demand false why rest = against why
 
 -- what is answered where bs are to be written at a position of out: 14 comes after the check
 abbrev pub written : Check → List ℕ → ℕ → List ℕ → Answer Unit
-written fine out at bs = cond (leb (at + length bs) (length out)) (got tt (at + length bs)) (refused 14)
-written (against number) out at bs = refused number
+written fine out at bs = cond (leb (at + length bs) (length out)) (got tt (at + length bs)) (refused outputTooShort)
+written (against why) out at bs = refused why
 
 -- what the output then holds
 abbrev pub output : Check → List ℕ → ℕ → List ℕ → List ℕ
 output fine out at bs = cond (leb (at + length bs) (length out)) (put out at bs) out
-output (against number) out at bs = out
+output (against why) out at bs = out
 
 -- both, as a writer's promise has it: the answer, and what it leaves
 pub record Wrote (check : Check) (out : List ℕ) (at : ℕ) (bs : List ℕ) (answer : Answer Unit) (left : List ℕ) : Type 0 where
@@ -57,10 +58,10 @@ unfoldable pub counted : ℕ → List ℕ → List ℕ
 counted n t = digits n (length t) ++ t
 
 abbrev pub countCheck : ℕ → List ℕ → Check
-countCheck limit t = demand (leb (length t) limit) 15 fine
+countCheck limit t = demand (leb (length t) limit) notWritable fine
 
 abbrev pub textCheck : ℕ → List ℕ → Check
-textCheck limit t = demand (leb (length t) limit) 15 (demand (utf8 t) 13 fine)
+textCheck limit t = demand (leb (length t) limit) notWritable (demand (utf8 t) notUtf8 fine)
 
 -- [bytes]: null is the count -1, whose four bytes are ff
 abbrev pub bytesBytes : Option (List ℕ) → List ℕ
@@ -108,6 +109,6 @@ lengthsFit sum ns = allShort ns && eqb sum (total ns)
 
 unfoldable pub listCheck : List ℕ → List ℕ → Check
 listCheck t ns =
-    demand (leb (length ns) maxShort) 15
-    (demand (lengthsFit (length t) ns) 15
-    (demand (allUtf8 (cutBy t ns)) 13 fine))
+    demand (leb (length ns) maxShort) notWritable
+    (demand (lengthsFit (length t) ns) notWritable
+    (demand (allUtf8 (cutBy t ns)) notUtf8 fine))

@@ -5,7 +5,7 @@ use mathlib.Core.Bool.{cond}
 use mathlib.Core.Path.{_≡_}
 use lib.Dec.{leb}
 use lib.ListN.{length}
-use Rattle.refusal.specs.Refusal.{numberOf}
+use Rattle.refusal.specs.Refusal.{paperRefusal}
 use Rattle.types.specs.Answer.{Answer, got, refused}
 use Rattle.types.specs.Read.{Strings, strings}
 use Rattle.types.specs.Paper.{stringsOf}
@@ -18,7 +18,7 @@ use Rattle.frame.specs.declared.read.Warnings.{Warnings}
 abbrev pub paperWarnings : ℕ → Warnings → Answer Strings
 paperWarnings at Warnings.Absent = got (strings 0 at) at
 paperWarnings at (Warnings.List walk next) = got (stringsOf walk) next
-paperWarnings at (Warnings.Refused e) = refused (numberOf e)
+paperWarnings at (Warnings.Refused e) = refused (paperRefusal e)
 
 -- a length, or one more than the largest that is declared where it is over that: sums of it never get large
 unfoldable pub capped : ℕ → ℕ

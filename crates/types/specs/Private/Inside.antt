@@ -3,7 +3,7 @@
 use Prim.Native.Nat.{ℕ}
 use mathlib.Core.List.{List}
 use mathlib.Core.Option.{Option, none, some}
-use Rattle.refusal.specs.Refusal.{numberOf}
+use Rattle.refusal.specs.Refusal.{paperRefusal}
 use Rattle.types.specs.Answer.{Answer, got, refused, andThen}
 use Rattle.types.specs.Read.{Place}
 use Rattle.types.specs.declared.read.Count.{Count}
@@ -13,12 +13,12 @@ use Rattle.types.specs.declared.read.End.{End}
 abbrev pub paperCount : Count → Answer (Option ℕ)
 paperCount (Count.Bytes n next) = got (some n) next
 paperCount (Count.Negative next) = got none next
-paperCount (Count.Refused e) = refused (numberOf e)
+paperCount (Count.Refused e) = refused (paperRefusal e)
 
 -- the end of some strings
 abbrev pub paperEnd : End → Answer Unit
 paperEnd (End.At next) = got tt next
-paperEnd (End.Refused e) = refused (numberOf e)
+paperEnd (End.Refused e) = refused (paperRefusal e)
 
 -- of some strings, only where the last of them ends
 abbrev pub endOf : Answer (List Place) → Answer Unit

@@ -2,6 +2,7 @@
 use mathlib.Core.Path.{sym, _∙_}
 use borrow.Author.Tests.{le-leb, lt-leb}
 use native.Mathlib.Omega.{arith}
+use Rattle.refusal.specs.Refusal.{inadmissible, outputTooShort, envelopeDoesNotFit}
 use Rattle.types.proofs.Put.{demanded, denied}
 use Rattle.frame_encoder.specs.Writer.{addCheck}
 use Rattle.frame_encoder.specs.Paper.{paperWriter}
@@ -20,9 +21,9 @@ check-add-spec =
     (λ c κs. fits-small (paperWriter (c .before .before .before .args .self)) (c .before .before .before .args .n) (sym (c .before .can-fit .ensures) ∙ c .if2 .taken))
     (λ c.
     let fit = c .before .before in
-    sym (demanded 1 _ (le-leb _ 131071 (fit .before .before .if1 .taken)) ∙ demanded 16 _ (sym (fit .before .can-fit .ensures) ∙ fit .if2 .taken) ∙ demanded 14 _ (sym (c .before .has-room .ensures) ∙ c .if3 .taken)))
+    sym (demanded inadmissible _ (le-leb _ 131071 (fit .before .before .if1 .taken)) ∙ demanded envelopeDoesNotFit _ (sym (fit .before .can-fit .ensures) ∙ fit .if2 .taken) ∙ demanded outputTooShort _ (sym (c .before .has-room .ensures) ∙ c .if3 .taken)))
     (λ c.
     let fit = c .before .before in
-    sym (demanded 1 _ (le-leb _ 131071 (fit .before .before .if1 .taken)) ∙ demanded 16 _ (sym (fit .before .can-fit .ensures) ∙ fit .if2 .taken) ∙ denied 14 _ (sym (c .before .has-room .ensures) ∙ c .if3 .left)))
-    (λ c. sym (demanded 1 _ (le-leb _ 131071 (c .before .before .if1 .taken)) ∙ denied 16 _ (sym (c .before .can-fit .ensures) ∙ c .if2 .left)))
-    (λ c. sym (denied 1 _ (lt-leb _ 131071 (c .if1 .left)))))
+    sym (demanded inadmissible _ (le-leb _ 131071 (fit .before .before .if1 .taken)) ∙ demanded envelopeDoesNotFit _ (sym (fit .before .can-fit .ensures) ∙ fit .if2 .taken) ∙ denied outputTooShort _ (sym (c .before .has-room .ensures) ∙ c .if3 .left)))
+    (λ c. sym (demanded inadmissible _ (le-leb _ 131071 (c .before .before .if1 .taken)) ∙ denied envelopeDoesNotFit _ (sym (c .before .can-fit .ensures) ∙ c .if2 .left)))
+    (λ c. sym (denied inadmissible _ (lt-leb _ 131071 (c .if1 .left)))))

@@ -1,6 +1,7 @@
 -- `frame_encoder::FrameEncoder::check_finish` meets its contract: one test after the other. Assumes nothing.
 use mathlib.Core.Path.{sym, _∙_}
 use borrow.Author.Tests.{le-leb, lt-leb}
+use Rattle.refusal.specs.Refusal.{inadmissible, outputTooShort}
 use Rattle.types.proofs.Put.{demanded, denied}
 use Rattle.frame_encoder.specs.Writer.{finishCheck}
 use borrow.Author.Needs.{needs}
@@ -13,6 +14,6 @@ check-finish-spec =
     tie.close
     (tie.spec
     (λ c κs. search needs)
-    (λ c. sym (demanded 1 _ (le-leb _ 131071 (c .before .before .if1 .taken)) ∙ demanded 14 _ (sym (c .before .has-room .ensures) ∙ c .if2 .taken)))
-    (λ c. sym (demanded 1 _ (le-leb _ 131071 (c .before .before .if1 .taken)) ∙ denied 14 _ (sym (c .before .has-room .ensures) ∙ c .if2 .left)))
-    (λ c. sym (denied 1 _ (lt-leb _ 131071 (c .if1 .left)))))
+    (λ c. sym (demanded inadmissible _ (le-leb _ 131071 (c .before .before .if1 .taken)) ∙ demanded outputTooShort _ (sym (c .before .has-room .ensures) ∙ c .if2 .taken)))
+    (λ c. sym (demanded inadmissible _ (le-leb _ 131071 (c .before .before .if1 .taken)) ∙ denied outputTooShort _ (sym (c .before .has-room .ensures) ∙ c .if2 .left)))
+    (λ c. sym (denied inadmissible _ (lt-leb _ 131071 (c .if1 .left)))))

@@ -3,6 +3,7 @@ use Prim.Native.Nat.{ℕ}
 use mathlib.Core.Path.{sym, ap, _∙_}
 use borrow.Author.Tests.{le-leb, lt-leb, eq-eqb, ne-eqb}
 use lib.Dec.{leb}
+use Rattle.refusal.specs.Refusal.{inadmissible, outputTooShort, segmentNotEmpty}
 use Rattle.segment.specs.Paper.{paperForm}
 use Rattle.segment.specs.Segment.{segmentLength}
 use Rattle.types.proofs.Put.{demanded, denied}
@@ -20,9 +21,9 @@ check-piece-spec =
     (λ c κs. search needs)
     (λ c.
     let a = c .before .before .before .before .before .args in
-    sym (demanded 1 _ (le-leb _ 131071 (c .before .before .before .before .if1 .taken)) ∙ demanded 17 _ (eq-eqb _ 0 (c .before .before .before .if2 .taken)) ∙ demanded 14 _ (sym (c .before .has-room .ensures ∙ ap (λ (k : ℕ). leb (segmentLength (paperForm (a .self .form)) k) (a .room)) (c .before .before .piece-of .ensures .0)) ∙ c .if3 .taken)))
+    sym (demanded inadmissible _ (le-leb _ 131071 (c .before .before .before .before .if1 .taken)) ∙ demanded segmentNotEmpty _ (eq-eqb _ 0 (c .before .before .before .if2 .taken)) ∙ demanded outputTooShort _ (sym (c .before .has-room .ensures ∙ ap (λ (k : ℕ). leb (segmentLength (paperForm (a .self .form)) k) (a .room)) (c .before .before .piece-of .ensures .0)) ∙ c .if3 .taken)))
     (λ c.
     let a = c .before .before .before .before .before .args in
-    sym (demanded 1 _ (le-leb _ 131071 (c .before .before .before .before .if1 .taken)) ∙ demanded 17 _ (eq-eqb _ 0 (c .before .before .before .if2 .taken)) ∙ denied 14 _ (sym (c .before .has-room .ensures ∙ ap (λ (k : ℕ). leb (segmentLength (paperForm (a .self .form)) k) (a .room)) (c .before .before .piece-of .ensures .0)) ∙ c .if3 .left)))
-    (λ c. sym (demanded 1 _ (le-leb _ 131071 (c .before .if1 .taken)) ∙ denied 17 _ (ne-eqb _ 0 (c .if2 .left))))
-    (λ c. sym (denied 1 _ (lt-leb _ 131071 (c .if1 .left)))))
+    sym (demanded inadmissible _ (le-leb _ 131071 (c .before .before .before .before .if1 .taken)) ∙ demanded segmentNotEmpty _ (eq-eqb _ 0 (c .before .before .before .if2 .taken)) ∙ denied outputTooShort _ (sym (c .before .has-room .ensures ∙ ap (λ (k : ℕ). leb (segmentLength (paperForm (a .self .form)) k) (a .room)) (c .before .before .piece-of .ensures .0)) ∙ c .if3 .left)))
+    (λ c. sym (demanded inadmissible _ (le-leb _ 131071 (c .before .if1 .taken)) ∙ denied segmentNotEmpty _ (ne-eqb _ 0 (c .if2 .left))))
+    (λ c. sym (denied inadmissible _ (lt-leb _ 131071 (c .if1 .left)))))
