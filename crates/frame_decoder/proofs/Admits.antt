@@ -34,7 +34,7 @@ counted f room pending (inSegment len at) e =
     let u = payload-fits f room len (t .0) in
     (u .0, u .1, leb-true at len (t .1))
 counted f room pending (inReassembly at) e = leb-true at pending e
-counted f room pending (stopped number) e = tt
+counted f room pending (stopped why) e = tt
 
 pub admitted : (r : Reader) (a b : ℕ) → admissible r a b ≡ true → Admitted r a b
 unfolding admissible lentFits

@@ -10,6 +10,7 @@ use lib.ListN.{length, take, drop, length-drop, drop-of-length-le}
 use lib.Seq.{length-take-le, take-all, take-take, drop-drop}
 use Rattle.basis.specs.Front.{incomplete, refuses, whole}
 use Rattle.crc.specs.Check32.{crc32}
+use Rattle.refusal.specs.Refusal.{payloadCheckDiffers}
 use Rattle.types.specs.Number.{part}
 use Rattle.types.specs.Write.{put}
 use Rattle.types.proofs.Steady.{part-same}
@@ -59,7 +60,7 @@ module _ (f : Form) (s : List ℕ) (n len : ℕ) (self : Bool) (room : segmentLe
         ap₂ (λ (x y : List ℕ). eqb (le x) (crc32 y)) (part-taken s n (headerLength f + len) trailerLength there (omega arith)) (part-taken s n (headerLength f) len (omega arith) (omega arith))
         ∙ e
 
-    pub segment-differs : checks ≡ false → payloadAt f (take n s) (header len 0 self) ≡ refuses 5
+    pub segment-differs : checks ≡ false → payloadAt f (take n s) (header len 0 self) ≡ refuses payloadCheckDiffers
     segment-differs e =
         payload-is f (take n s) (header len 0 self) (payload-differs (omega (arith, length-take-le n s (omega arith))) (same-check false e))
 

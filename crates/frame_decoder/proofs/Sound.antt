@@ -10,6 +10,7 @@ use lib.Dec.{leb, eqb}
 use lib.ListN.{length, take}
 use lib.Seq.{length-take-le}
 use Rattle.basis.specs.Front.{Front, incomplete, refuses, whole}
+use Rattle.refusal.specs.Refusal.{Refusal, headerCheckDiffers, payloadCompressed, segmentTooLong, payloadCheckDiffers, unexpectedSelfContained, reassemblyTooShort}
 use Rattle.types.specs.Number.{part}
 use Rattle.types.specs.Write.{put}
 use Rattle.types.proofs.BigEndian.{length-part}
@@ -33,8 +34,8 @@ payload-most : (x : ℕ) → x % 131072 ≤ 131071
 payload-most x = omega arith
 
 module _ (r : Reader) (a b : ℕ) (ok : Admitted r a b) where
-  stopped-admitted : (number : ℕ) → Admitted (inPhase r (stopped number)) a b
-  stopped-admitted number = record { least = ok .least; most = ok .most; held = ok .held; largest = ok .largest; counts = tt }
+  stopped-admitted : (why : Refusal) → Admitted (inPhase r (stopped why)) a b
+  stopped-admitted why = record { least = ok .least; most = ok .most; held = ok .held; largest = ok .largest; counts = tt }
 
   begins-admitted : (p : ℕ) → p ≤ b → Admitted (keeping r p (inHeader 0)) a b
   begins-admitted p h = record { least = ok .least; most = ok .most; held = h; largest = ok .largest; counts = omega arith }
@@ -46,22 +47,22 @@ module _ (r : Reader) (a b : ℕ) (ok : Admitted r a b) where
 
   module _ (n : ℕ) (seg re : List ℕ) (la : length seg ≡ a) (lb : length re ≡ b) (most : n ≤ headerLength (r .form)) where
     sound-passed : (h : Header) → h .payload ≤ 131071 → headerLength (r .form) ≤ n → (t : Bool) → leb (segmentLength (r .form) (h .payload)) (length seg) ≡ t
-        → Sound a b (cond t (waits (inPhase r (inRest n (h .payload) (h .self)))) (refusing 4 r)) re
+        → Sound a b (cond t (waits (inPhase r (inRest n (h .payload) (h .self)))) (refusing segmentTooLong r)) re
     sound-passed h small there true e =
         let room : segmentLength (r .form) (h .payload) ≤ length seg = leb-true (segmentLength (r .form) (h .payload)) (length seg) e in (
           record { least = ok .least; most = ok .most; held = ok .held; largest = ok .largest; counts = (small, omega arith, omega arith) },
           lb,
           omega arith,
         )
-    sound-passed h small there false e = (stopped-admitted 4, lb)
+    sound-passed h small there false e = (stopped-admitted segmentTooLong, lb)
 
-    sound-header : r .phase ≡ inHeader n → {f : Front Header} → Headers (r .form) (take n seg) f → Sound a b (headerDue r n (length seg) f) re
+    sound-header : r .phase ≡ inHeader n → {f : Front Refusal Header} → Headers (r .form) (take n seg) f → Sound a b (headerDue r n (length seg) f) re
     unfolding headerDue fieldsOf
     sound-header q (head-cut h) =
         let l : length (take n seg) ≡ n = length-take-le n seg (omega (arith, head-most (r .form), ok .least)) in
         (ok, lb, subst (λ (p : Phase). 0 < wanted (r .form) p) (sym q) (omega arith))
-    sound-header q (head-differs h c) = (stopped-admitted 2, lb)
-    sound-header q (head-compressed h c u) = (stopped-admitted 3, lb)
+    sound-header q (head-differs h c) = (stopped-admitted headerCheckDiffers, lb)
+    sound-header q (head-compressed h c u) = (stopped-admitted payloadCompressed, lb)
     sound-header q (head-good h c u) =
         let l : length (take n seg) ≡ n = length-take-le n seg (omega (arith, head-most (r .form), ok .least)) in
         sound-passed (fieldsAt (r .form) (take n seg)) (payload-most _) (omega arith) (leb (segmentLength (r .form) (fieldsAt (r .form) (take n seg) .payload)) (length seg)) refl
@@ -73,10 +74,10 @@ module _ (r : Reader) (a b : ℕ) (ok : Admitted r a b) where
     sound-left n true = (begins-admitted (r .pending) (ok .held), lb, begins-wanting)
     sound-left n false = (begins-admitted (r .pending) (ok .held), lb)
 
-    sound-from : (f : Front Envelope) → envelope (part seg (headerLength (r .form) + at) (len - at)) ≡ f → Sound a b (fromSegment r len at f) re
+    sound-from : (f : Front Refusal Envelope) → envelope (part seg (headerLength (r .form) + at) (len - at)) ≡ f → Sound a b (fromSegment r len at f) re
     unfolding fromSegment leftoverDue
     sound-from incomplete e = sound-left (len - at) (eqb (len - at) 0)
-    sound-from (refuses number) e = (stopped-admitted number, lb)
+    sound-from (refuses why) e = (stopped-admitted why, lb)
     sound-from (whole v) e =
         let l : length (part seg (headerLength (r .form) + at) (len - at)) ≡ len - at = length-part seg (headerLength (r .form) + at) (len - at) (omega arith) in
         let w : v .size ≤ len - at = omega (arith, within-bytes _ e) in (
@@ -91,7 +92,7 @@ module _ (r : Reader) (a b : ℕ) (ok : Admitted r a b) where
   -- ---- envelopes of the pending bytes
 
   module _ (re : List ℕ) (at : ℕ) (lb : length re ≡ b) (h : at ≤ r .pending) where
-    sound-pended : (f : Front Envelope) → envelope (part re at (r .pending - at)) ≡ f → Sound a b (fromPending r re at f .says) (fromPending r re at f .reassembly)
+    sound-pended : (f : Front Refusal Envelope) → envelope (part re at (r .pending - at)) ≡ f → Sound a b (fromPending r re at f .says) (fromPending r re at f .reassembly)
     unfolding fromPending
     sound-pended incomplete e =
         let l : length (part re at (r .pending - at)) ≡ r .pending - at = length-part re at (r .pending - at) (omega (arith, ok .held)) in (
@@ -99,7 +100,7 @@ module _ (r : Reader) (a b : ℕ) (ok : Admitted r a b) where
           length-put re 0 (part re at (r .pending - at)) (omega (arith, zero-add (length (part re at (r .pending - at))), ok .held)) ∙ lb,
           begins-wanting,
         )
-    sound-pended (refuses number) e = (stopped-admitted number, lb)
+    sound-pended (refuses why) e = (stopped-admitted why, lb)
     sound-pended (whole v) e =
         let l : length (part re at (r .pending - at)) ≡ r .pending - at = length-part re at (r .pending - at) (omega (arith, ok .held)) in
         let w : v .size ≤ r .pending - at = omega (arith, within-bytes _ e) in (
@@ -112,19 +113,19 @@ module _ (r : Reader) (a b : ℕ) (ok : Admitted r a b) where
     sound-pending = sound-pended (envelope (part re at (r .pending - at))) refl
 
 module _ (r : Reader) (a b : ℕ) (ok : Admitted r a b) (seg re : List ℕ) (la : length seg ≡ a) (lb : length re ≡ b) where
-  sound-alone : (len : ℕ) → len ≤ 131071 → segmentLength (r .form) len ≤ a → (t : Bool) → Sound a b (cond t (readSegment r seg len 0) (refusing 6 r)) re
+  sound-alone : (len : ℕ) → len ≤ 131071 → segmentLength (r .form) len ≤ a → (t : Bool) → Sound a b (cond t (readSegment r seg len 0) (refusing unexpectedSelfContained r)) re
   sound-alone len small room true = sound-segment r a b ok seg re len 0 la lb small room (omega arith)
-  sound-alone len small room false = (stopped-admitted r a b ok 6, lb)
+  sound-alone len small room false = (stopped-admitted r a b ok unexpectedSelfContained, lb)
 
   sound-joined : (p : List ℕ) (t : Bool) → leb (r .pending + length p) (length re) ≡ t
-      → (let s : Settled = cond t (readPending (keeping r (r .pending + length p) (inReassembly 0)) (put re (r .pending) p) 0) (record { says = refusing 7 r; reassembly = re }) in Sound a b (s .says) (s .reassembly))
+      → (let s : Settled = cond t (readPending (keeping r (r .pending + length p) (inReassembly 0)) (put re (r .pending) p) 0) (record { says = refusing reassemblyTooShort r; reassembly = re }) in Sound a b (s .says) (s .reassembly))
   sound-joined p true e =
       let room : r .pending + length p ≤ length re = leb-true (r .pending + length p) (length re) e in
       let joined : Admitted (keeping r (r .pending + length p) (inReassembly 0)) a b =
       record { least = ok .least; most = ok .most; held = omega arith; largest = ok .largest; counts = omega arith }
       in
       sound-pending (keeping r (r .pending + length p) (inReassembly 0)) a b joined (put re (r .pending) p) 0 (length-put re (r .pending) p room ∙ lb) (omega arith)
-  sound-joined p false e = (stopped-admitted r a b ok 7, lb)
+  sound-joined p false e = (stopped-admitted r a b ok reassemblyTooShort, lb)
 
   sound-received : (len : ℕ) → len ≤ 131071 → segmentLength (r .form) len ≤ a → (self : Bool) (p : List ℕ)
       → Sound a b (received r seg re len self p .says) (received r seg re len self p .reassembly)
@@ -133,12 +134,12 @@ module _ (r : Reader) (a b : ℕ) (ok : Admitted r a b) (seg re : List ℕ) (la 
   sound-received len small room false p = sound-joined p (leb (r .pending + length p) (length re)) refl
 
   sound-due : (n len : ℕ) (self : Bool) → r .phase ≡ inRest n len self → Counts (r .form) a (r .pending) (inRest n len self)
-      → {f : Front Segment} → Payloads (r .form) (take n seg) (header len 0 self) f → Sound a b (segmentDue r seg re len f .says) (segmentDue r seg re len f .reassembly)
+      → {f : Front Refusal Segment} → Payloads (r .form) (take n seg) (header len 0 self) f → Sound a b (segmentDue r seg re len f .says) (segmentDue r seg re len f .reassembly)
   unfolding segmentDue
   sound-due n len self q k (payload-cut l) =
       let t : length (take n seg) ≡ n = length-take-le n seg (omega (arith, k .1, k .2)) in
       (ok, lb, subst (λ (p : Phase). 0 < wanted (r .form) p) (sym q) (omega arith))
-  sound-due n len self q k (payload-differs l c) = (stopped-admitted r a b ok 5, lb)
+  sound-due n len self q k (payload-differs l c) = (stopped-admitted r a b ok payloadCheckDiffers, lb)
   sound-due n len self q k (payload-good l c) = sound-received len (k .0) (k .1) self _
 
   sound-at : (q : Phase) → r .phase ≡ q → Counts (r .form) a (r .pending) q → Sound a b (settleAt r seg re q .says) (settleAt r seg re q .reassembly)
@@ -147,7 +148,7 @@ module _ (r : Reader) (a b : ℕ) (ok : Admitted r a b) (seg re : List ℕ) (la 
   sound-at (inRest n len self) e k = sound-due n len self e k (payload-case (r .form) (take n seg) (header len 0 self))
   sound-at (inSegment len at) e k = sound-segment r a b ok seg re len at la lb (k .0) (k .1) (k .2)
   sound-at (inReassembly at) e k = sound-pending r a b ok re at lb k
-  sound-at (stopped number) e k = (ok, lb)
+  sound-at (stopped why) e k = (ok, lb)
 
   pub settle-sound : Sound a b (settle r seg re .says) (settle r seg re .reassembly)
   unfolding settle

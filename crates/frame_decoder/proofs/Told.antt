@@ -3,7 +3,7 @@ use Prim.Native.Nat.{ℕ}
 use mathlib.Core.Path.{_≡_, refl, sym, ap, ap₂, _∙_}
 use mathlib.Core.List.{List}
 use Rattle.basis.proofs.Determined.{Tells}
-use Rattle.refusal.proofs.Numbers.{refusalOf, refusalOf-number}
+use Rattle.refusal.proofs.Numbers.{caseOf, caseOf-paper}
 use Rattle.types.specs.Read.{Place}
 use Rattle.segment.proofs.Told.{form-told}
 use Rattle.segment.specs.declared.Form as code-form
@@ -26,7 +26,7 @@ phaseFrom (inHeader n) = code-phase.Phase.Header n
 phaseFrom (inRest n len self) = code-phase.Phase.Rest n len self
 phaseFrom (inSegment len at) = code-phase.Phase.InSegment len at
 phaseFrom (inReassembly at) = code-phase.Phase.InReassembly at
-phaseFrom (stopped number) = code-phase.Phase.Stopped (refusalOf number)
+phaseFrom (stopped why) = code-phase.Phase.Stopped (caseOf why)
 
 phase-is : (q : code-phase.Phase) → phaseFrom (paperPhase q) ≡ q
 unfolding phaseFrom
@@ -34,7 +34,7 @@ phase-is (code-phase.Phase.Header n) = refl
 phase-is (code-phase.Phase.Rest n len self) = refl
 phase-is (code-phase.Phase.InSegment len at) = refl
 phase-is (code-phase.Phase.InReassembly at) = refl
-phase-is (code-phase.Phase.Stopped e) = ap code-phase.Phase.Stopped (refusalOf-number e)
+phase-is (code-phase.Phase.Stopped e) = ap code-phase.Phase.Stopped (caseOf-paper e)
 
 readerFrom : Reader → code-reader.Reader
 readerFrom r =
@@ -72,7 +72,7 @@ answerFrom : Answer → code-answer.Answer
 answerFrom (envelopeAt b p e) = code-answer.Answer.Envelope (bufferFrom b) (record { start = p .start; len = p .count }) (envelope-told .back e)
 answerFrom (leftover n) = code-answer.Answer.Leftover n
 answerFrom more = code-answer.Answer.More
-answerFrom (refused number) = code-answer.Answer.Refused (refusalOf number)
+answerFrom (refused why) = code-answer.Answer.Refused (caseOf why)
 
 answer-is : (a : code-answer.Answer) → answerFrom (paperAnswer a) ≡ a
 unfolding answerFrom
@@ -80,7 +80,7 @@ answer-is (code-answer.Answer.Envelope b p e) =
     ap₂ (λ (x : code-buffer.Buffer) (y : code-envelope.Envelope). code-answer.Answer.Envelope x p y) (buffer-is b) (envelope-told .is e)
 answer-is (code-answer.Answer.Leftover n) = refl
 answer-is code-answer.Answer.More = refl
-answer-is (code-answer.Answer.Refused e) = ap code-answer.Answer.Refused (refusalOf-number e)
+answer-is (code-answer.Answer.Refused e) = ap code-answer.Answer.Refused (caseOf-paper e)
 
 heardFrom : Outcome → Heard
 heardFrom o = record { answer = answerFrom (o .answer); taken = o .taken }

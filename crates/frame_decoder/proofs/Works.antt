@@ -64,7 +64,7 @@ waits-at r seg re (inHeader n) room h =
 waits-at r seg re (inRest n len self) room h = ap (segmentDue r seg re len) (segment-cut (r .form) seg n len self (room .1) (omega arith))
 waits-at r seg re (inSegment len at) room h = absurd (omega arith)
 waits-at r seg re (inReassembly at) room h = absurd (omega arith)
-waits-at r seg re (stopped number) room h = absurd (omega arith)
+waits-at r seg re (stopped why) room h = absurd (omega arith)
 
 pub settle-waits : (r : Reader) (seg re : List ℕ) → Roomy (r .form) (length seg) (r .phase) → 0 < wanted (r .form) (r .phase) → settle r seg re ≡ settled (waits r) re
 unfolding settle
@@ -75,7 +75,7 @@ roomy f a p (inHeader n) h k = (k, omega (arith, head-most f))
 roomy f a p (inRest n len self) h k = (k .2, k .1)
 roomy f a p (inSegment len at) h k = tt
 roomy f a p (inReassembly at) h k = tt
-roomy f a p (stopped number) h k = tt
+roomy f a p (stopped why) h k = tt
 
 module _ (f : Form) where
   grown-wanted : (k : ℕ) (q : Phase) → k ≤ wanted f q → wanted f (grown k q) ≡ wanted f q - k
@@ -84,7 +84,7 @@ module _ (f : Form) where
   grown-wanted k (inRest n len self) h = omega arith
   grown-wanted k (inSegment len at) h = omega arith
   grown-wanted k (inReassembly at) h = omega arith
-  grown-wanted k (stopped number) h = omega arith
+  grown-wanted k (stopped why) h = omega arith
 
   grown-roomy : (a k : ℕ) (q : Phase) → k ≤ wanted f q → Roomy f a q → Roomy f a (grown k q)
   unfolding grown
@@ -92,7 +92,7 @@ module _ (f : Form) where
   grown-roomy a k (inRest n len self) h room = (omega (arith, room .0), room .1)
   grown-roomy a k (inSegment len at) h room = tt
   grown-roomy a k (inReassembly at) h room = tt
-  grown-roomy a k (stopped number) h room = tt
+  grown-roomy a k (stopped why) h room = tt
 
   grown-counts : (a p k : ℕ) (q : Phase) → k ≤ wanted f q → Counts f a p q → Counts f a p (grown k q)
   unfolding grown
@@ -100,7 +100,7 @@ module _ (f : Form) where
   grown-counts a p k (inRest n len self) h c = (c .0, c .1, omega (arith, c .2))
   grown-counts a p k (inSegment len at) h c = c
   grown-counts a p k (inReassembly at) h c = c
-  grown-counts a p k (stopped number) h c = c
+  grown-counts a p k (stopped why) h c = c
 
   pub stored-length : (q : Phase) (seg bs : List ℕ) → length bs ≤ wanted f q → Roomy f (length seg) q → length (stored q seg bs) ≡ length seg
   unfolding stored
@@ -108,7 +108,7 @@ module _ (f : Form) where
   stored-length (inRest n len self) seg bs h room = length-put seg n bs (omega (arith, room .0, room .1))
   stored-length (inSegment len at) seg bs h room = refl
   stored-length (inReassembly at) seg bs h room = refl
-  stored-length (stopped number) seg bs h room = refl
+  stored-length (stopped why) seg bs h room = refl
 
   stored-then : (q : Phase) (seg : List ℕ) (b : ℕ) (bs : List ℕ) → suc (length bs) ≤ wanted f q → Roomy f (length seg) q
       → stored (grown 1 q) (stored q seg (b ∷ [])) bs ≡ stored q seg (b ∷ bs)
@@ -117,7 +117,7 @@ module _ (f : Form) where
   stored-then (inRest n len self) seg b bs h room = put-put seg n (b ∷ []) bs (omega (arith, room .0, room .1))
   stored-then (inSegment len at) seg b bs h room = refl
   stored-then (inReassembly at) seg b bs h room = refl
-  stored-then (stopped number) seg b bs h room = refl
+  stored-then (stopped why) seg b bs h room = refl
 
 pub stored-none : (q : Phase) (seg : List ℕ) → stored q seg [] ≡ seg
 unfolding stored
@@ -125,7 +125,7 @@ stored-none (inHeader n) seg = put-none seg n
 stored-none (inRest n len self) seg = put-none seg n
 stored-none (inSegment len at) seg = refl
 stored-none (inReassembly at) seg = refl
-stored-none (stopped number) seg = refl
+stored-none (stopped why) seg = refl
 
 pub grown-none : (q : Phase) → grown 0 q ≡ q
 unfolding grown
@@ -133,7 +133,7 @@ grown-none (inHeader n) = ap inHeader (add-zero n)
 grown-none (inRest n len self) = ap (λ (k : ℕ). inRest k len self) (add-zero n)
 grown-none (inSegment len at) = refl
 grown-none (inReassembly at) = refl
-grown-none (stopped number) = refl
+grown-none (stopped why) = refl
 
 grown-then : (k : ℕ) (q : Phase) → grown k (grown 1 q) ≡ grown (suc k) q
 unfolding grown
@@ -141,7 +141,7 @@ grown-then k (inHeader n) = ap inHeader (omega arith)
 grown-then k (inRest n len self) = ap (λ (i : ℕ). inRest i len self) (omega arith)
 grown-then k (inSegment len at) = refl
 grown-then k (inReassembly at) = refl
-grown-then k (stopped number) = refl
+grown-then k (stopped why) = refl
 
 -- bytes that are all wanted are taken together
 pub work-fed : (bs piece : List ℕ) (taken : ℕ) (r : Reader) (seg re : List ℕ) → Roomy (r .form) (length seg) (r .phase) → length bs ≤ wanted (r .form) (r .phase)

@@ -3,6 +3,7 @@ use Prim.Native.Nat.{ℕ, suc, _+_}
 use mathlib.Core.Bool.{cond}
 use mathlib.Core.List.{List, [], _∷_}
 use lib.ListN.{length}
+use Rattle.refusal.specs.Refusal.{inadmissible}
 use Rattle.types.specs.Write.{put}
 use Rattle.frame_decoder.specs.Reader.{Phase, inHeader, inRest, inSegment, inReassembly, stopped, Reader, inPhase, Answer, more, refused, admissible}
 use Rattle.frame_decoder.specs.Settle.{Due, due, waits, Settled, settle}
@@ -27,7 +28,7 @@ stored (inHeader n) segment bytes = put segment n bytes
 stored (inRest n len self) segment bytes = put segment n bytes
 stored (inSegment len at) segment bytes = segment
 stored (inReassembly at) segment bytes = segment
-stored (stopped number) segment bytes = segment
+stored (stopped why) segment bytes = segment
 
 -- so many more are there; nothing is judged
 unfoldable pub grown : ℕ → Phase → Phase
@@ -35,7 +36,7 @@ grown k (inHeader n) = inHeader (n + k)
 grown k (inRest n len self) = inRest (n + k) len self
 grown k (inSegment len at) = inSegment len at
 grown k (inReassembly at) = inReassembly at
-grown k (stopped number) = stopped number
+grown k (stopped why) = stopped why
 
 abbrev pub pushed : ℕ → Reader → Reader
 pushed k r = inPhase r (grown k (r .phase))
@@ -62,4 +63,4 @@ unfoldable pub call : Reader → List ℕ → List ℕ → List ℕ → Outcome
 call r segment reassembly piece =
     cond (admissible r (length segment) (length reassembly))
     (work 0 r segment reassembly piece)
-    (outcome (refused 1) 0 r segment reassembly)
+    (outcome (refused inadmissible) 0 r segment reassembly)

@@ -1,7 +1,7 @@
 -- What the values and answers of the code mean. Assumes nothing.
 use mathlib.Core.List.{List}
 use Prim.Native.Nat.{ℕ}
-use Rattle.refusal.specs.Refusal.{numberOf}
+use Rattle.refusal.specs.Refusal.{paperRefusal}
 use Rattle.types.specs.Paper.{placeOf}
 use Rattle.segment.specs.Paper.{paperForm}
 use Rattle.frame.specs.Paper.{paperEnvelope}
@@ -19,7 +19,7 @@ paperPhase (code-phase.Phase.Header filled) = inHeader filled
 paperPhase (code-phase.Phase.Rest filled len self) = inRest filled len self
 paperPhase (code-phase.Phase.InSegment len at) = inSegment len at
 paperPhase (code-phase.Phase.InReassembly at) = inReassembly at
-paperPhase (code-phase.Phase.Stopped e) = stopped (numberOf e)
+paperPhase (code-phase.Phase.Stopped e) = stopped (paperRefusal e)
 
 abbrev pub paperReader : code-reader.Reader → Reader
 paperReader r =
@@ -39,7 +39,7 @@ abbrev pub paperAnswer : code-answer.Answer → Answer
 paperAnswer (code-answer.Answer.Envelope buffer place e) = envelopeAt (paperBuffer buffer) (placeOf place) (paperEnvelope e)
 paperAnswer (code-answer.Answer.Leftover n) = leftover n
 paperAnswer code-answer.Answer.More = more
-paperAnswer (code-answer.Answer.Refused e) = refused (numberOf e)
+paperAnswer (code-answer.Answer.Refused e) = refused (paperRefusal e)
 
 -- what was heard, together with the reader and what the buffers then hold
 abbrev pub paperHeard : Heard → code-reader.Reader → List ℕ → List ℕ → Outcome

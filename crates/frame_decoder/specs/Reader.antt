@@ -3,6 +3,7 @@ use Prim.Native.Nat.{ℕ, _+_, _-_}
 use mathlib.Core.Bool.{Bool, true, cond, _&&_}
 use mathlib.Core.List.{List}
 use lib.Dec.{leb, eqb}
+use Rattle.refusal.specs.Refusal.{Refusal}
 use Rattle.types.specs.Read.{Place, bytesIn}
 use Rattle.segment.specs.Header.{Form, headerLength}
 use Rattle.segment.specs.Segment.{maxPayload, segmentLength}
@@ -18,8 +19,8 @@ pub data Phase : Type 0 where
   inSegment : ℕ → ℕ → Phase
   -- envelopes of the pending bytes are handed on: how many of them are read
   inReassembly : ℕ → Phase
-  -- refused with a number
-  stopped : ℕ → Phase
+  -- refused
+  stopped : Refusal → Phase
 
 -- the form, the lengths of the two buffers that it was made for, how many bytes are pending, and the phase
 pub record Reader : Type 0 where
@@ -49,7 +50,7 @@ pub data Answer : Type 0 where
   envelopeAt : Buffer → Place → Envelope → Answer
   leftover : ℕ → Answer
   more : Answer
-  refused : ℕ → Answer
+  refused : Refusal → Answer
 
 -- the bytes of a place: none where it runs past the end of its buffer
 abbrev pub bytesAt : Buffer → List ℕ → List ℕ → Place → List ℕ
@@ -86,7 +87,7 @@ countsFit form room pending (inHeader n) = leb n (headerLength form)
 countsFit form room pending (inRest n len self) = payloadFits form room len && leb n (segmentLength form len)
 countsFit form room pending (inSegment len at) = payloadFits form room len && leb at len
 countsFit form room pending (inReassembly at) = leb at pending
-countsFit form room pending (stopped number) = true
+countsFit form room pending (stopped why) = true
 
 unfoldable pub admissible : Reader → ℕ → ℕ → Bool
 admissible r a b = lentFits r a b && (leb (r .pending) b && countsFit (r .form) a (r .pending) (r .phase))
@@ -98,7 +99,7 @@ heldIn pending (inHeader n) = n + pending
 heldIn pending (inRest n len self) = n + pending
 heldIn pending (inSegment len at) = pending
 heldIn pending (inReassembly at) = pending - at
-heldIn pending (stopped number) = 0
+heldIn pending (stopped why) = 0
 
 -- of a state that every call refuses with 1, none
 unfoldable pub held : Reader → ℕ

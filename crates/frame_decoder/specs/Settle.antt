@@ -5,6 +5,7 @@ use mathlib.Core.List.{List}
 use lib.Dec.{leb, eqb}
 use lib.ListN.{length, take}
 use Rattle.basis.specs.Front.{Front, incomplete, refuses, whole}
+use Rattle.refusal.specs.Refusal.{Refusal, segmentTooLong, unexpectedSelfContained, reassemblyTooShort}
 use Rattle.types.specs.Number.{part}
 use Rattle.types.specs.Read.{place}
 use Rattle.types.specs.Write.{put}
@@ -27,18 +28,18 @@ abbrev pub settled : Due → List ℕ → Settled
 settled says reassembly = record { says = says; reassembly = reassembly }
 
 -- 6.13: a refusal stops the reader
-abbrev pub refusing : ℕ → Reader → Due
-refusing number r = due (refused number) (inPhase r (stopped number))
+abbrev pub refusing : Refusal → Reader → Due
+refusing why r = due (refused why) (inPhase r (stopped why))
 
 -- ---- 6.5: a header of which n bytes are there, and as what it is read; room is the segment buffer's
 
-unfoldable pub headerDue : Reader → ℕ → ℕ → Front Header → Due
+unfoldable pub headerDue : Reader → ℕ → ℕ → Front Refusal Header → Due
 headerDue r n room incomplete = waits r
-headerDue r n room (refuses number) = refusing number r
+headerDue r n room (refuses why) = refusing why r
 headerDue r n room (whole h) =
     cond (leb (segmentLength (r .form) (h .payload)) room)
     (waits (inPhase r (inRest n (h .payload) (h .self))))
-    (refusing 4 r)
+    (refusing segmentTooLong r)
 
 -- ---- 6.7: envelopes of a self-contained payload, where it stands in the segment buffer
 
@@ -46,9 +47,9 @@ headerDue r n room (whole h) =
 unfoldable pub leftoverDue : Reader → ℕ → Due
 leftoverDue r n = cond (eqb n 0) (waits (inPhase r (inHeader 0))) (due (leftover n) (inPhase r (inHeader 0)))
 
-unfoldable pub fromSegment : Reader → ℕ → ℕ → Front Envelope → Due
+unfoldable pub fromSegment : Reader → ℕ → ℕ → Front Refusal Envelope → Due
 fromSegment r len at incomplete = leftoverDue r (len - at)
-fromSegment r len at (refuses number) = refusing number r
+fromSegment r len at (refuses why) = refusing why r
 fromSegment r len at (whole e) =
     due (envelopeAt segmentBuffer (place (headerLength (r .form) + at) (e .size)) e) (inPhase r (inSegment len (at + e .size)))
 
@@ -61,10 +62,10 @@ readSegment r segment len at = fromSegment r len at (envelope (part segment (hea
 abbrev pub movedDown : List ℕ → ℕ → ℕ → List ℕ
 movedDown reassembly at n = put reassembly 0 (part reassembly at n)
 
-unfoldable pub fromPending : Reader → List ℕ → ℕ → Front Envelope → Settled
+unfoldable pub fromPending : Reader → List ℕ → ℕ → Front Refusal Envelope → Settled
 fromPending r reassembly at incomplete =
     settled (waits (keeping r (r .pending - at) (inHeader 0))) (movedDown reassembly at (r .pending - at))
-fromPending r reassembly at (refuses number) = settled (refusing number r) reassembly
+fromPending r reassembly at (refuses why) = settled (refusing why r) reassembly
 fromPending r reassembly at (whole e) =
     settled (due (envelopeAt reassemblyBuffer (place at (e .size)) e) (inPhase r (inReassembly (at + e .size)))) reassembly
 
@@ -75,22 +76,22 @@ readPending r reassembly at = fromPending r reassembly at (envelope (part reasse
 
 -- self-contained
 unfoldable pub readAlone : Reader → List ℕ → ℕ → Due
-readAlone r segment len = cond (eqb (r .pending) 0) (readSegment r segment len 0) (refusing 6 r)
+readAlone r segment len = cond (eqb (r .pending) 0) (readSegment r segment len 0) (refusing unexpectedSelfContained r)
 
 -- not: its payload joins the pending bytes
 unfoldable pub readJoined : Reader → List ℕ → List ℕ → Settled
 readJoined r reassembly payload =
     cond (leb (r .pending + length payload) (length reassembly))
     (readPending (keeping r (r .pending + length payload) (inReassembly 0)) (put reassembly (r .pending) payload) 0)
-    (settled (refusing 7 r) reassembly)
+    (settled (refusing reassemblyTooShort r) reassembly)
 
 abbrev pub received : Reader → List ℕ → List ℕ → ℕ → Bool → List ℕ → Settled
 received r segment reassembly len true payload = settled (readAlone r segment len) reassembly
 received r segment reassembly len false payload = readJoined r reassembly payload
 
-unfoldable pub segmentDue : Reader → List ℕ → List ℕ → ℕ → Front Segment → Settled
+unfoldable pub segmentDue : Reader → List ℕ → List ℕ → ℕ → Front Refusal Segment → Settled
 segmentDue r segment reassembly len incomplete = settled (waits r) reassembly
-segmentDue r segment reassembly len (refuses number) = settled (refusing number r) reassembly
+segmentDue r segment reassembly len (refuses why) = settled (refusing why r) reassembly
 segmentDue r segment reassembly len (whole s) = received r segment reassembly len (s .self) (s .payload)
 
 -- ---- by phase
@@ -100,7 +101,7 @@ settleAt r segment reassembly (inHeader n) = settled (headerDue r n (length segm
 settleAt r segment reassembly (inRest n len self) = segmentDue r segment reassembly len (payloadAt (r .form) (take n segment) (header len 0 self))
 settleAt r segment reassembly (inSegment len at) = settled (readSegment r segment len at) reassembly
 settleAt r segment reassembly (inReassembly at) = readPending r reassembly at
-settleAt r segment reassembly (stopped number) = settled (due (refused number) r) reassembly
+settleAt r segment reassembly (stopped why) = settled (due (refused why) r) reassembly
 
 unfoldable pub settle : Reader → List ℕ → List ℕ → Settled
 settle r segment reassembly = settleAt r segment reassembly (r .phase)

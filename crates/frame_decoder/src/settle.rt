@@ -5,7 +5,7 @@ ghost use lib.Dec.{eqb};
 ghost use lib.ListN.{length, take};
 ghost use Rattle.basis.specs.Front.{whole};
 ghost use Rattle.crc.specs.Check32.{crc32};
-ghost use Rattle.refusal.specs.Refusal.{numberOf};
+ghost use Rattle.refusal.specs.Refusal.{paperRefusal};
 ghost use Rattle.types.specs.Number.{part};
 ghost use Rattle.segment.specs.LittleEndian.{le};
 ghost use Rattle.segment.specs.Header.{headerLength, header as fieldsAre};
@@ -39,7 +39,7 @@ pub(crate) enum Due {
 
 // Any refusal stops the reader.
 fn refuse(m: Reader, e: Refusal) -> Due
-    ensures { λ r. ⌜ paperDue r ≡ refusing (numberOf e) (paperReader m) ⌝ }
+    ensures { λ r. ⌜ paperDue r ≡ refusing (paperRefusal e) (paperReader m) ⌝ }
 {
     let reader = m.in_phase(Phase::Stopped(e));
     Due::Answered(Answer::Refused(e), reader)

@@ -11,6 +11,7 @@ use lib.ListN.{length, take, drop, length-append, length-drop}
 use lib.Seq.{length-take-le}
 use Rattle.basis.specs.Front.{Front, incomplete, refuses, whole}
 use Rattle.basis.specs.Machine.{Reply, handsOn, asksMore, refusesWith, dated, says, refusedAfter}
+use Rattle.refusal.specs.Refusal.{Refusal, inadmissible}
 use Rattle.types.specs.Write.{put}
 use Rattle.types.proofs.Cut.{both-true}
 use Rattle.types.proofs.Put.{length-put}
@@ -45,7 +46,7 @@ counts-fit f room pending (inRest n len self) k =
     both (both (le-leb len maxPayload (k .0)) (le-leb (segmentLength f len) room (k .1))) (le-leb n (segmentLength f len) (k .2))
 counts-fit f room pending (inSegment len at) k = both (both (le-leb len maxPayload (k .0)) (le-leb (segmentLength f len) room (k .1))) (le-leb at len (k .2))
 counts-fit f room pending (inReassembly at) k = le-leb at pending k
-counts-fit f room pending (stopped number) k = refl
+counts-fit f room pending (stopped why) k = refl
 
 module _ (r : Reader) (seg re : List ℕ) where
   pub ready-admissible : Ready (state r seg re) → admissible r (length seg) (length re) ≡ true
@@ -81,7 +82,7 @@ one-more : (z : Lent) (pending s : List ℕ) (taken b : ℕ) (stream : List ℕ)
     → judging z pending s taken (b ∷ stream) ≡ judging z pending (s ++ b ∷ []) (suc taken) stream
 unfolding meaningFrom
 one-more z pending s taken b stream e =
-    ap (λ (f : Front Segment). judged z f pending s taken (λ pending′ s′. meaningFrom z taken pending′ s′ (b ∷ stream))) e
+    ap (λ (f : Front Refusal Segment). judged z f pending s taken (λ pending′ s′. meaningFrom z taken pending′ s′ (b ∷ stream))) e
 
 pub record Pushes (r : Reader) (q : Phase) (seg re : List ℕ) (b : ℕ) : Type 0 where
   pub long : length (stored q seg (b ∷ [])) ≡ length seg
@@ -131,7 +132,7 @@ module _ (r : Reader) (seg re : List ℕ) (b : ℕ) (cap : length seg ≡ r .seg
       }
   pushes (inSegment len at) k w = absurd (omega arith)
   pushes (inReassembly at) k w = absurd (omega arith)
-  pushes (stopped number) k w = absurd (omega arith)
+  pushes (stopped why) k w = absurd (omega arith)
 
 -- ---- a call
 
@@ -141,9 +142,9 @@ pub record Spoken (s : State) (piece : List ℕ) (count : ℕ) (x : Said) (t : S
   pub agrees : Untouched s → Untouched t
   pub same : Untouched s → (taken : ℕ) (stream : List ℕ) → rest s taken (piece ++ stream) ≡ says (dated (taken + count) x) (rest t (taken + count) (drop count piece ++ stream))
 
-pub record Stopped (s : State) (piece : List ℕ) (count number : ℕ) (t : State) : Type 0 where
-  pub stays : t .reader .phase ≡ stopped number
-  pub same : Untouched s → (taken : ℕ) (stream : List ℕ) → rest s taken (piece ++ stream) ≡ refusedAfter number (taken + count)
+pub record Stopped (s : State) (piece : List ℕ) (count : ℕ) (why : Refusal) (t : State) : Type 0 where
+  pub stays : t .reader .phase ≡ stopped why
+  pub same : Untouched s → (taken : ℕ) (stream : List ℕ) → rest s taken (piece ++ stream) ≡ refusedAfter why (taken + count)
 
 pub record Waiting (s : State) (piece : List ℕ) (count : ℕ) (t : State) : Type 0 where
   pub all : count ≡ length piece
@@ -151,10 +152,10 @@ pub record Waiting (s : State) (piece : List ℕ) (count : ℕ) (t : State) : Ty
   pub agrees : Untouched s → Untouched t
   pub same : Untouched s → (taken : ℕ) (stream : List ℕ) → rest s taken (piece ++ stream) ≡ rest t (taken + count) stream
 
-abbrev pub Told : State → List ℕ → ℕ → Reply Said ℕ → State → Type 0
+abbrev pub Told : State → List ℕ → ℕ → Reply Said Refusal → State → Type 0
 Told s piece count (handsOn x) t = Spoken s piece count x t
 Told s piece count asksMore t = Waiting s piece count t
-Told s piece count (refusesWith number) t = Stopped s piece count number t
+Told s piece count (refusesWith why) t = Stopped s piece count why t
 
 -- so many bytes were taken before
 pub record Called (s : State) (piece : List ℕ) (before : ℕ) (o : Outcome) : Type 0 where
@@ -179,7 +180,7 @@ module _ (r : Reader) (seg re : List ℕ) (t : Ready (state r seg re)) where
       }
 
   -- an answer that is due at once
-  told-at-once : (piece : List ℕ) (reply : Reply Said ℕ) (x : Reader) (re′ : List ℕ) → Replies r (r .phase) seg re reply x re′ → Told here piece 0 reply (state x seg re′)
+  told-at-once : (piece : List ℕ) (reply : Reply Said Refusal) (x : Reader) (re′ : List ℕ) → Replies r (r .phase) seg re reply x re′ → Told here piece 0 reply (state x seg re′)
   told-at-once piece (handsOn said) x re′ d =
       record {
         small = d .small;
@@ -188,13 +189,13 @@ module _ (r : Reader) (seg re : List ℕ) (t : Ready (state r seg re)) where
         same = λ a taken stream. d .same a taken (piece ++ stream) ∙ ap (λ (k : ℕ). says (dated k said) (rest (state x seg re′) k (piece ++ stream))) (sym (add-zero taken));
       }
   told-at-once piece asksMore x re′ d = absurd d
-  told-at-once piece (refusesWith number) x re′ d =
-      record { stays = d .stays; same = λ a taken stream. d .same a taken (piece ++ stream) ∙ ap (refusedAfter number) (sym (add-zero taken)) }
+  told-at-once piece (refusesWith why) x re′ d =
+      record { stays = d .stays; same = λ a taken stream. d .same a taken (piece ++ stream) ∙ ap (refusedAfter why) (sym (add-zero taken)) }
 
-  lends-at-once : (reply : Reply Said ℕ) (x : Reader) (re′ : List ℕ) → Replies r (r .phase) seg re reply x re′ → lentOf x ≡ lentOf r
+  lends-at-once : (reply : Reply Said Refusal) (x : Reader) (re′ : List ℕ) → Replies r (r .phase) seg re reply x re′ → lentOf x ≡ lentOf r
   lends-at-once (handsOn said) x re′ d = d .lends
   lends-at-once asksMore x re′ d = absurd d
-  lends-at-once (refusesWith number) x re′ d = d .lends
+  lends-at-once (refusesWith why) x re′ d = d .lends
 
   at-once : (piece : List ℕ) (before : ℕ) (answer : Answer) (x : Reader) (re′ : List ℕ) → Admitted x (length seg) (length re) → length re′ ≡ length re → Tells r (r .phase) seg re (due answer x) re′
       → Called here piece before (outcome answer before x seg re′)
@@ -265,7 +266,7 @@ module _ (r : Reader) (seg re : List ℕ) (t : Ready (state r seg re)) where
     later : (taken count : ℕ) → suc taken + count ≡ taken + suc count
     later taken count = omega arith
 
-    told-later : (count : ℕ) (reply : Reply Said ℕ) (u : State) → Told on piece count reply u → Told here (b ∷ piece) (suc count) reply u
+    told-later : (count : ℕ) (reply : Reply Said Refusal) (u : State) → Told on piece count reply u → Told here (b ∷ piece) (suc count) reply u
     told-later count (handsOn said) u t =
         record {
           small = t .small;
@@ -283,8 +284,8 @@ module _ (r : Reader) (seg re : List ℕ) (t : Ready (state r seg re)) where
           agrees = λ a. t .agrees (agrees-on a);
           same = λ a taken stream. same-on a taken (piece ++ stream) ∙ t .same (agrees-on a) (suc taken) stream ∙ ap (λ (k : ℕ). rest u k stream) (later taken count);
         }
-    told-later count (refusesWith number) u t =
-        record { stays = t .stays; same = λ a taken stream. same-on a taken (piece ++ stream) ∙ t .same (agrees-on a) (suc taken) stream ∙ ap (refusedAfter number) (later taken count) }
+    told-later count (refusesWith why) u t =
+        record { stays = t .stays; same = λ a taken stream. same-on a taken (piece ++ stream) ∙ t .same (agrees-on a) (suc taken) stream ∙ ap (refusedAfter why) (later taken count) }
 
     one-later : (o : Outcome) → Called on piece (suc before) o → Called here (b ∷ piece) before o
     one-later o t =
@@ -324,11 +325,11 @@ work-called (b ∷ piece) before r seg re t =
 module _ (r : Reader) (seg re piece : List ℕ) where
   pub call-works : Ready (state r seg re) → call r seg re piece ≡ work 0 r seg re piece
   unfolding call
-  call-works t = ap (λ (b : Bool). cond b (work 0 r seg re piece) (outcome (refused 1) 0 r seg re)) (ready-admissible r seg re t)
+  call-works t = ap (λ (b : Bool). cond b (work 0 r seg re piece) (outcome (refused inadmissible) 0 r seg re)) (ready-admissible r seg re t)
 
-  pub call-refused : admissible r (length seg) (length re) ≡ false → call r seg re piece ≡ outcome (refused 1) 0 r seg re
+  pub call-refused : admissible r (length seg) (length re) ≡ false → call r seg re piece ≡ outcome (refused inadmissible) 0 r seg re
   unfolding call
-  call-refused e = ap (λ (b : Bool). cond b (work 0 r seg re piece) (outcome (refused 1) 0 r seg re)) e
+  call-refused e = ap (λ (b : Bool). cond b (work 0 r seg re piece) (outcome (refused inadmissible) 0 r seg re)) e
 
   pub called : Ready (state r seg re) → Called (state r seg re) piece 0 (call r seg re piece)
   called t = subst (Called (state r seg re) piece 0) (sym (call-works t)) (work-called piece 0 r seg re t)

@@ -82,4 +82,4 @@ held-bytes s t =
     by (inRest n len self) k = ap₂ (λ (i j : ℕ). i + j) (length-take-le n (s .segment) (omega (arith, k .1, k .2))) pends
     by (inSegment len at) k = omega (arith, pends)
     by (inReassembly at) k = omega (arith, length-part (s .reassembly) at (s .reader .pending - at) (omega (arith, t .ok .held)))
-    by (stopped number) k = refl
+    by (stopped why) k = refl

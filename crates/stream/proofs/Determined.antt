@@ -4,7 +4,7 @@ use mathlib.Core.Path.{_≡_, refl, sym, ap, ap₂, _∙_}
 use mathlib.Core.List.{List}
 use Rattle.basis.specs.Determined.{DeterminedAs}
 use Rattle.basis.proofs.Machine.{one-way}
-use Rattle.refusal.proofs.Numbers.{refusalOf, refusalOf-number}
+use Rattle.refusal.proofs.Numbers.{caseOf, caseOf-paper}
 use Rattle.segment.specs.Header.{Form}
 use Rattle.stream.specs.Caller.{State}
 use Rattle.stream.specs.Collect.{Tape, Ending, refusedEnd, heldEnd, HeardAs}
@@ -17,12 +17,12 @@ use Rattle.stream.proofs.collect.Reads as collects
 -- ---- what an end means says the end
 
 endFrom : Ending → End
-endFrom (refusedEnd number taken) = End.Refused (refusalOf number) taken
+endFrom (refusedEnd why taken) = End.Refused (caseOf why) taken
 endFrom (heldEnd n segment k pending) = End.Held n k
 
 end-is : (e : End) (seg re : List ℕ) → endFrom (paperEnd e seg re) ≡ e
 unfolding endFrom
-end-is (End.Refused e taken) seg re = ap (λ x. End.Refused x taken) (refusalOf-number e)
+end-is (End.Refused e taken) seg re = ap (λ x. End.Refused x taken) (caseOf-paper e)
 end-is (End.Held n k) seg re = refl
 
 -- ---- the answer, the two buffers and the two outputs

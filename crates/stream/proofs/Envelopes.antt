@@ -7,6 +7,7 @@ use lib.ListN.{length, take, drop}
 use Rattle.basis.specs.Front.{Front, incomplete, refuses, whole}
 use Rattle.basis.specs.Machine.{dated, says, refusedAfter}
 use Rattle.basis.proofs.Fronts.{not-refused}
+use Rattle.refusal.specs.Refusal.{Refusal}
 use Rattle.types.specs.Read.{place}
 use Rattle.frame.specs.Envelope.{Envelope, envelope}
 use Rattle.frame.proofs.Cases.{short, size-is}
@@ -27,7 +28,7 @@ module _ (taken : ℕ) (buffer : Buffer) (goes-on : List ℕ → Meaning) where
   passed-over at (suc n) (b ∷ s) =
       passed-over (suc at) n s ∙ ap (λ (k : ℕ). envelopesIn taken buffer k 0 (drop n s) goes-on) (let i : suc at + n ≡ at + suc n = omega arith in i)
 
-  by : ℕ → ℕ → List ℕ → Front Envelope → Meaning
+  by : ℕ → ℕ → List ℕ → Front Refusal Envelope → Meaning
   by at b s f = byFront f taken buffer at (b ∷ s) goes-on (λ skip. envelopesIn taken buffer (suc at) skip s goes-on)
 
   module _ (at : ℕ) where
@@ -36,10 +37,10 @@ module _ (taken : ℕ) (buffer : Buffer) (goes-on : List ℕ → Meaning) where
     none-whole [] e = refl
     none-whole (b ∷ s) e = ap (by at b s) e
 
-    pub first-refused : (s : List ℕ) (number : ℕ) → envelope s ≡ refuses number → envelopesIn taken buffer at 0 s goes-on ≡ refusedAfter number taken
+    pub first-refused : (s : List ℕ) (why : Refusal) → envelope s ≡ refuses why → envelopesIn taken buffer at 0 s goes-on ≡ refusedAfter why taken
     unfolding envelopesIn by
-    first-refused [] number e = absurd (not-refused (sym nothing-there ∙ e))
-    first-refused (b ∷ s) number e = ap (by at b s) e
+    first-refused [] why e = absurd (not-refused (sym nothing-there ∙ e))
+    first-refused (b ∷ s) why e = ap (by at b s) e
 
     pub first-whole : (s : List ℕ) (v : Envelope) → envelope s ≡ whole v
         → envelopesIn taken buffer at 0 s goes-on

@@ -11,6 +11,7 @@ use lib.Seq.{take-append-le}
 use Rattle.basis.specs.Front.{Front, incomplete, refuses, whole, ifWhole}
 use Rattle.crc.specs.Check24.{crc24}
 use Rattle.crc.specs.Check32.{crc32}
+use Rattle.refusal.specs.Refusal.{Refusal, segmentTooLong}
 use Rattle.types.specs.Number.{part}
 use Rattle.types.proofs.Steady.{part-same}
 use Rattle.segment.specs.LittleEndian.{le}
@@ -41,7 +42,7 @@ module _ (f : Form) (s q : List ℕ) where
         more : headerLength f ≤ length (s ++ q)
         more = omega (arith, length-append s q)
 
-        go : {x : Front Header} → Headers f s x → headerAt f (s ++ q) ≡ x
+        go : {x : Front Refusal Header} → Headers f s x → headerAt f (s ++ q) ≡ x
         go (head-cut l) = absurd (omega arith)
         go (head-differs l c) = header-is f (s ++ q) (head-differs more (same-check ∙ c))
         go (head-compressed l c u) = header-is f (s ++ q) (head-compressed more (same-check ∙ c) (ap (λ (x : Header). eqb (x .uncompressed) 0) same-fields ∙ u))
@@ -60,7 +61,7 @@ module _ (f : Form) (s q : List ℕ) where
         more : segmentLength f (h .payload) ≤ length (s ++ q)
         more = omega (arith, length-append s q)
 
-        go : {x : Front Segment} → Payloads f s h x → payloadAt f (s ++ q) h ≡ x
+        go : {x : Front Refusal Segment} → Payloads f s h x → payloadAt f (s ++ q) h ≡ x
         go (payload-cut k) = absurd (omega arith)
         go (payload-differs k c) = payload-is f (s ++ q) h (payload-differs more (same-trailer ∙ c))
         go (payload-good k c) = payload-is f (s ++ q) h (payload-good more (same-trailer ∙ c)) ∙ ap (λ (p : List ℕ). whole (segment (h .self) p)) same-payload
@@ -70,17 +71,17 @@ module _ (f : Form) (s q : List ℕ) where
 module _ (z : Lent) (s : List ℕ) where
   pub in-header : length s < headerLength (z .form) → segmentIn z s ≡ incomplete
   unfolding segmentIn
-  in-header h = ap (λ (f : Front Header). ifWhole f (behindHeader z s)) (header-is (z .form) s (head-cut h))
+  in-header h = ap (λ (f : Front Refusal Header). ifWhole f (behindHeader z s)) (header-is (z .form) s (head-cut h))
 
-  pub by-header : {f : Front Header} → headerAt (z .form) s ≡ f → segmentIn z s ≡ ifWhole f (behindHeader z s)
+  pub by-header : {f : Front Refusal Header} → headerAt (z .form) s ≡ f → segmentIn z s ≡ ifWhole f (behindHeader z s)
   unfolding segmentIn
-  by-header e = ap (λ (f : Front Header). ifWhole f (behindHeader z s)) e
+  by-header e = ap (λ (f : Front Refusal Header). ifWhole f (behindHeader z s)) e
 
   pub roomy-header : (h : Header) → headerAt (z .form) s ≡ whole h → segmentLength (z .form) (h .payload) ≤ z .segment → segmentIn z s ≡ payloadAt (z .form) s h
-  roomy-header h e l = by-header e ∙ ap (λ (t : Bool). cond t (payloadAt (z .form) s h) (refuses 4)) (le-leb (segmentLength (z .form) (h .payload)) (z .segment) l)
+  roomy-header h e l = by-header e ∙ ap (λ (t : Bool). cond t (payloadAt (z .form) s h) (refuses segmentTooLong)) (le-leb (segmentLength (z .form) (h .payload)) (z .segment) l)
 
-  pub large-header : (h : Header) → headerAt (z .form) s ≡ whole h → z .segment < segmentLength (z .form) (h .payload) → segmentIn z s ≡ refuses 4
-  large-header h e l = by-header e ∙ ap (λ (t : Bool). cond t (payloadAt (z .form) s h) (refuses 4)) (lt-leb (segmentLength (z .form) (h .payload)) (z .segment) l)
+  pub large-header : (h : Header) → headerAt (z .form) s ≡ whole h → z .segment < segmentLength (z .form) (h .payload) → segmentIn z s ≡ refuses segmentTooLong
+  large-header h e l = by-header e ∙ ap (λ (t : Bool). cond t (payloadAt (z .form) s h) (refuses segmentTooLong)) (lt-leb (segmentLength (z .form) (h .payload)) (z .segment) l)
 
 -- no bytes are no segment
 pub nothing-seen : (z : Lent) → segmentIn z [] ≡ incomplete

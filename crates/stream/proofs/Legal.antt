@@ -14,6 +14,7 @@ use Rattle.basis.specs.Front.{Front, incomplete, refuses, whole, ifWhole}
 use Rattle.basis.specs.Machine.{Dated, dated, says, refusedAfter, holding, saying}
 use Rattle.basis.proofs.Fronts.{not-whole, refused-not-whole, whole-value}
 use Rattle.basis.proofs.Machine.{saying-both}
+use Rattle.refusal.specs.Refusal.{Refusal, segmentTooLong, reassemblyTooShort}
 use Rattle.types.specs.Read.{place}
 use Rattle.types.proofs.BigEndian.{length-part}
 use Rattle.segment.specs.Header.{Form, Header, headerLength}
@@ -188,7 +189,7 @@ pub found : (f : Form) (s : List ℕ) (self : Bool) (p : List ℕ) → segmentAt
 unfolding segmentAt
 found f s self p e = by-header (headerAt f s) refl e
   where
-    by-payload : (h : Header) → headerAt f s ≡ whole h → {x : Front Segment} → Payloads f s h x → payloadAt f s h ≡ x → x ≡ whole (segment self p) → Found f s self p
+    by-payload : (h : Header) → headerAt f s ≡ whole h → {x : Front Refusal Segment} → Payloads f s h x → payloadAt f s h ≡ x → x ≡ whole (segment self p) → Found f s self p
     by-payload h q (payload-cut l) i e = absurd (not-whole e)
     by-payload h q (payload-differs l c) i e = absurd (refused-not-whole e)
     by-payload h q (payload-good l c) i e =
@@ -200,9 +201,9 @@ found f s self p e = by-header (headerAt f s) refl e
           long = sym (length-part s (headerLength f) (h .payload) (omega arith)) ∙ ap (λ (g : Segment). length (g .payload)) (whole-value e);
         }
 
-    by-header : (x : Front Header) → headerAt f s ≡ x → ifWhole x (payloadAt f s) ≡ whole (segment self p) → Found f s self p
+    by-header : (x : Front Refusal Header) → headerAt f s ≡ x → ifWhole x (payloadAt f s) ≡ whole (segment self p) → Found f s self p
     by-header incomplete q e = absurd (not-whole e)
-    by-header (refuses number) q e = absurd (refused-not-whole e)
+    by-header (refuses why) q e = absurd (refused-not-whole e)
     by-header (whole h) q e = by-payload h q (payload-case f s h) refl e
 
 module _ (z : Lent) (s : List ℕ) (self : Bool) (p : List ℕ) (g : WholeSegment (z .form) s self p) (taken : ℕ) (pending stream : List ℕ) where
@@ -233,15 +234,15 @@ module _ (z : Lent) (s : List ℕ) (self : Bool) (p : List ℕ) (g : WholeSegmen
     unfolding segmentwise
     segment-first =
         segment-by-segment z taken pending (s ++ stream)
-        ∙ ap₂ (λ (f : Front Segment) (n : ℕ). byFirst z f taken pending (s ++ stream) n) seen (last-is true (le-leb size (z .segment) room) ∙ sym (g .ends))
+        ∙ ap₂ (λ (f : Front Refusal Segment) (n : ℕ). byFirst z f taken pending (s ++ stream) n) seen (last-is true (le-leb size (z .segment) room) ∙ sym (g .ends))
         ∙ ap (λ (l : List ℕ). bySegment z self p pending (taken + length s) (λ unread. meaningFrom z (taken + length s) unread [] l)) (drop-append-seam s stream)
 
-  pub segment-large : z .segment < size → meaningFrom z taken pending [] (s ++ stream) ≡ refusedAfter 4 (taken + headerLength (z .form))
+  pub segment-large : z .segment < size → meaningFrom z taken pending [] (s ++ stream) ≡ refusedAfter segmentTooLong (taken + headerLength (z .form))
   unfolding segmentwise
   segment-large large =
       let n : segmentLength (z .form) (i .head .payload) ≡ size = ap (segmentLength (z .form)) (i .long) in
       segment-by-segment z taken pending (s ++ stream)
-      ∙ ap₂ (λ (f : Front Segment) (k : ℕ). byFirst z f taken pending (s ++ stream) k) (large-header z (s ++ stream) (i .head) same-header (omega arith)) (last-is false (lt-leb size (z .segment) large))
+      ∙ ap₂ (λ (f : Front Refusal Segment) (k : ℕ). byFirst z f taken pending (s ++ stream) k) (large-header z (s ++ stream) (i .head) same-header (omega arith)) (last-is false (lt-leb size (z .segment) large))
 
 -- ---- a self-contained segment, a run, a stream
 
@@ -256,10 +257,10 @@ module _ (z : Lent) where
   joined-said : {s p : List ℕ} → WholeSegment (z .form) s false p → segmentLength (z .form) (length p) ≤ z .segment → (taken : ℕ) (u stream : List ℕ) (t : Bool)
       → leb (length u + length p) (z .reassembly) ≡ t
       → meaningFrom z taken u [] (s ++ stream)
-      ≡ cond t (envelopesIn (taken + length s) reassemblyBuffer 0 0 (u ++ p) (λ unread. meaningFrom z (taken + length s) unread [] stream)) (refusedAfter 7 (taken + length s))
+      ≡ cond t (envelopesIn (taken + length s) reassemblyBuffer 0 0 (u ++ p) (λ unread. meaningFrom z (taken + length s) unread [] stream)) (refusedAfter reassemblyTooShort (taken + length s))
   joined-said {s} {p} g room taken u stream t e =
       segment-first z s false p g taken u stream room
-      ∙ ap (λ (b : Bool). cond b (envelopesIn (taken + length s) reassemblyBuffer 0 0 (u ++ p) (λ unread. meaningFrom z (taken + length s) unread [] stream)) (refusedAfter 7 (taken + length s))) e
+      ∙ ap (λ (b : Bool). cond b (envelopesIn (taken + length s) reassemblyBuffer 0 0 (u ++ p) (λ unread. meaningFrom z (taken + length s) unread [] stream)) (refusedAfter reassemblyTooShort (taken + length s))) e
 
   -- where the sizes suffice there is room
   room-for : {s p : List ℕ} {self : Bool} → WholeSegment (z .form) s self p → (taken : ℕ) (u stream : List ℕ) → NeverShort (meaningFrom z taken u [] (s ++ stream)) → segmentLength (z .form) (length p) ≤ z .segment

@@ -20,7 +20,7 @@ use Rattle.stream.proofs.Calls.{ready-on, call-works}
 
 unfoldable pub asksFor : Answer → ℕ
 asksFor more = 1
-asksFor (refused number) = 0
+asksFor (refused why) = 0
 asksFor (leftover n) = 0
 asksFor (envelopeAt buffer at e) = 0
 
@@ -74,7 +74,7 @@ module _ (q : List ℕ) {a : Answer} (not-more : asksFor a ≡ 1 → ⊥) {n : �
 due-not-more : (r : Reader) (seg re re′ : List ℕ) {x y : Reader} {s u v w : List ℕ} {k n : ℕ} (answer : Answer) → Tells r (r .phase) seg re (due answer x) re′ → outcome answer k x s u ≡ outcome more n y v w → ⊥
 unfolding asksFor
 due-not-more r seg re re′ more d e = d
-due-not-more r seg re re′ (refused number) d e = apart (λ i. omega arith) e
+due-not-more r seg re re′ (refused why) d e = apart (λ i. omega arith) e
 due-not-more r seg re re′ (leftover k) d e = apart (λ i. omega arith) e
 due-not-more r seg re re′ (envelopeAt buffer at v) d e = apart (λ i. omega arith) e
 

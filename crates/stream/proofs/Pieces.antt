@@ -13,6 +13,7 @@ use Rattle.basis.specs.Front.{Front, incomplete}
 use Rattle.basis.specs.Lists.{joined}
 use Rattle.basis.specs.Machine.{Reply, handsOn, asksMore, refusesWith, Step, refusedAfter, holding, refusedWith, Uses, by-more, by-refusal, after-one, Ends, Hears, all-given, one-used, one-refused}
 use Rattle.basis.proofs.Machine.{Machine, Does, Kept, Lawful, asks-refuses, hands-refuses, same-refusal, ends, Open, heard-is, hears-all}
+use Rattle.refusal.specs.Refusal.{Refusal, inadmissible}
 use Rattle.types.proofs.Cut.{both-true}
 use Rattle.segment.specs.Header.{Form, header, headerLength}
 use Rattle.segment.specs.Segment.{Segment, segmentLength}
@@ -35,7 +36,7 @@ use Rattle.stream.proofs.Longer.{asksFor, call-longer, call-joined}
 module _ (r : Reader) (seg re : List ℕ) (t : Ready (state r seg re)) (taken : ℕ) where
   quiet : (pending s : List ℕ) → segmentIn (lentOf r) s ≡ incomplete → judging (lentOf r) pending s taken [] ≡ holding (held s pending)
   unfolding meaningFrom
-  quiet pending s e = ap (λ (f : Front Segment). judged (lentOf r) f pending s taken (λ pending′ s′. meaningFrom (lentOf r) taken pending′ s′ [])) e
+  quiet pending s e = ap (λ (f : Front Refusal Segment). judged (lentOf r) f pending s taken (λ pending′ s′. meaningFrom (lentOf r) taken pending′ s′ [])) e
 
   holds-at : (q : Phase) → Counts (r .form) (length seg) (r .pending) q → Agrees (r .form) q seg → 0 < wanted (r .form) q
       → restAt (lentOf r) (r .pending) q seg re taken [] ≡ holding (held (segmentHeld q seg) (pendingHeld (r .pending) q re))
@@ -48,11 +49,11 @@ module _ (r : Reader) (seg re : List ℕ) (t : Ready (state r seg re)) (taken : 
       (roomy-header (lentOf r) (take n seg) (header len 0 self) (a .1) (omega (arith, k .1, t .segment)) ∙ payload-is (r .form) (take n seg) (header len 0 self) (payload-cut (omega arith)))
   holds-at (inSegment len at) k a w = absurd (omega arith)
   holds-at (inReassembly at) k a w = absurd (omega arith)
-  holds-at (stopped number) k a w = absurd (omega arith)
+  holds-at (stopped why) k a w = absurd (omega arith)
 
 -- ---- the law of a call
 
-abbrev pub reader : Machine State Said ℕ Held
+abbrev pub reader : Machine State Said Refusal Held
 reader = record { call = reads; holds = holds; Good = Ready; Sure = Untouched; Waits = Wants; ahead = ahead; rest = rest }
 
 module _ (s : State) (piece : List ℕ) (g : Ready s) where
@@ -75,7 +76,7 @@ module _ (s : State) (piece : List ℕ) (g : Ready s) where
     does (envelopeAt buffer at v) e k t = record { less = t .less; sure = t .agrees; same = t .same; longer = answers (λ i. omega arith) e }
     does (leftover left) e k t = record { less = t .less; sure = t .agrees; same = t .same; longer = answers (λ i. omega arith) e }
     does more e k t = record { all = t .all; waits = t .wanting; sure = t .agrees; same = t .same; both = λ q. ap stepOf (call-joined r seg re piece q g k e) }
-    does (refused number) e k t = record { same = t .same; longer = answers (λ i. omega arith) e }
+    does (refused why) e k t = record { same = t .same; longer = answers (λ i. omega arith) e }
 
   kept : Kept reader s piece (reads s piece)
   kept =
@@ -106,7 +107,7 @@ soon-used-up s taken piece = by (admissible (s .reader) (length (s .segment)) (l
     by false e =
         record {
           handed = [];
-          close = refusedWith 1;
+          close = refusedWith inadmissible;
           end = taken + 0;
           last = s;
           uses = by-refusal (ap stepOf (call-refused (s .reader) (s .segment) (s .reassembly) piece e));
@@ -136,21 +137,21 @@ module _ (f : Form) (seg re : List ℕ) where
 
     pub heard-all : (stream : List ℕ) → heardOf f (length seg) (length re) stream ≡ meaning (lent f (length seg) (length re)) stream
     unfolding heardOf
-    heard-all stream = ap (λ (b : Bool). cond b (meaning (lent f (length seg) (length re)) stream) (refusedAfter 1 0)) range
+    heard-all stream = ap (λ (b : Bool). cond b (meaning (lent f (length seg) (length re)) stream) (refusedAfter inadmissible 0)) range
 
     -- what is to come from it is what the stream means
     pub fresh-rest : (stream : List ℕ) → rest (start f seg re) 0 stream ≡ heardOf f (length seg) (length re) stream
     fresh-rest stream =
-        ap (λ (x : Front Segment). judged (lent f (length seg) (length re)) x [] [] 0 (λ pending′ s′. meaningFrom (lent f (length seg) (length re)) 0 pending′ s′ stream)) (nothing-seen (lent f (length seg) (length re)))
+        ap (λ (x : Front Refusal Segment). judged (lent f (length seg) (length re)) x [] [] 0 (λ pending′ s′. meaningFrom (lent f (length seg) (length re)) 0 pending′ s′ stream)) (nothing-seen (lent f (length seg) (length re)))
         ∙ sym (heard-all stream)
 
   module _ (range : inRange (length seg) (length re) ≡ false) where
-    pub heard-none : (stream : List ℕ) → heardOf f (length seg) (length re) stream ≡ refusedAfter 1 0
+    pub heard-none : (stream : List ℕ) → heardOf f (length seg) (length re) stream ≡ refusedAfter inadmissible 0
     unfolding heardOf
-    heard-none stream = ap (λ (b : Bool). cond b (meaning (lent f (length seg) (length re)) stream) (refusedAfter 1 0)) range
+    heard-none stream = ap (λ (b : Bool). cond b (meaning (lent f (length seg) (length re)) stream) (refusedAfter inadmissible 0)) range
 
     -- each call is refused with 1
-    pub out-of-range : (piece : List ℕ) → reads (start f seg re) piece ≡ stepOf (outcome (refused 1) 0 (fresh f (length seg) (length re)) seg re)
+    pub out-of-range : (piece : List ℕ) → reads (start f seg re) piece ≡ stepOf (outcome (refused inadmissible) 0 (fresh f (length seg) (length re)) seg re)
     unfolding admissible lentFits inRange
     out-of-range piece =
         let a : ℕ = length seg in
@@ -158,12 +159,12 @@ module _ (f : Form) (seg re : List ℕ) where
         ap stepOf
         (call-refused (fresh f a b) seg re piece (ap (λ (t : Bool). (t && (eqb a a && eqb b b)) && (leb 0 b && countsFit f a 0 (inHeader 0))) range))
 
-    refused-first : {taken : ℕ} {piece : List ℕ} {pieces : List (List ℕ)} {m : Meaning} → Hears reads holds (start f seg re) taken (piece ∷ pieces) m → m ≡ refusedAfter 1 (taken + 0)
+    refused-first : {taken : ℕ} {piece : List ℕ} {pieces : List (List ℕ)} {m : Meaning} → Hears reads holds (start f seg re) taken (piece ∷ pieces) m → m ≡ refusedAfter inadmissible (taken + 0)
     refused-first {piece = piece} (one-used (by-more e) on) = absurd (asks-refuses (sym e ∙ out-of-range piece))
     refused-first {piece = piece} (one-used (after-one e u) on) = absurd (hands-refuses (sym e ∙ out-of-range piece))
     refused-first {taken} {piece} (one-refused (by-refusal e)) =
         let q = sym e ∙ out-of-range piece in
-        ap₂ refusedAfter (same-refusal q) (ap (λ (o : Step State Said ℕ). taken + o .taken) q)
+        ap₂ refusedAfter (same-refusal q) (ap (λ (o : Step State Said Refusal). taken + o .taken) q)
     refused-first {piece = piece} (one-refused (after-one e u)) = absurd (hands-refuses (sym e ∙ out-of-range piece))
 
   waiting : (pieces : List (List ℕ)) → Open reader (start f seg re) pieces

@@ -11,6 +11,7 @@ use lib.ListN.{length, take, drop, length-append}
 use lib.Seq.{length-take-le}
 use Rattle.basis.specs.Front.{Front, incomplete, refuses, whole, ifWhole}
 use Rattle.basis.specs.Machine.{Reply, handsOn, asksMore, refusesWith, dated, says, refusedAfter}
+use Rattle.refusal.specs.Refusal.{Refusal, segmentTooLong, unexpectedSelfContained, reassemblyTooShort}
 use Rattle.types.specs.Number.{part}
 use Rattle.types.specs.Read.{place}
 use Rattle.types.specs.Write.{put}
@@ -44,10 +45,10 @@ pub record Speaks (r : Reader) (q : Phase) (seg re : List ℕ) (x : Said) (r′ 
   pub agrees : Agrees (r′ .form) (r′ .phase) seg
   pub same : Agrees (r .form) q seg → (taken : ℕ) (stream : List ℕ) → restAt (lentOf r) (r .pending) q seg re taken stream ≡ says (dated taken x) (rest (state r′ seg re′) taken stream)
 
-pub record Stops (r : Reader) (q : Phase) (seg re : List ℕ) (number : ℕ) (r′ : Reader) : Type 0 where
+pub record Stops (r : Reader) (q : Phase) (seg re : List ℕ) (why : Refusal) (r′ : Reader) : Type 0 where
   pub lends : lentOf r′ ≡ lentOf r
-  pub stays : r′ .phase ≡ stopped number
-  pub same : Agrees (r .form) q seg → (taken : ℕ) (stream : List ℕ) → restAt (lentOf r) (r .pending) q seg re taken stream ≡ refusedAfter number taken
+  pub stays : r′ .phase ≡ stopped why
+  pub same : Agrees (r .form) q seg → (taken : ℕ) (stream : List ℕ) → restAt (lentOf r) (r .pending) q seg re taken stream ≡ refusedAfter why taken
 
 pub record Waits (r : Reader) (q : Phase) (seg re : List ℕ) (r′ : Reader) (re′ : List ℕ) : Type 0 where
   pub lends : lentOf r′ ≡ lentOf r
@@ -56,10 +57,10 @@ pub record Waits (r : Reader) (q : Phase) (seg re : List ℕ) (r′ : Reader) (r
   pub same : Agrees (r .form) q seg → (taken : ℕ) (stream : List ℕ) → restAt (lentOf r) (r .pending) q seg re taken stream ≡ rest (state r′ seg re′) taken stream
 
 -- more is never due by itself
-abbrev pub Replies : Reader → Phase → List ℕ → List ℕ → Reply Said ℕ → Reader → List ℕ → Type 0
+abbrev pub Replies : Reader → Phase → List ℕ → List ℕ → Reply Said Refusal → Reader → List ℕ → Type 0
 Replies r q seg re (handsOn x) r′ re′ = Speaks r q seg re x r′ re′
 Replies r q seg re asksMore r′ re′ = ⊥
-Replies r q seg re (refusesWith number) r′ re′ = Stops r q seg re number r′
+Replies r q seg re (refusesWith why) r′ re′ = Stops r q seg re why r′
 
 abbrev pub Tells : Reader → Phase → List ℕ → List ℕ → Due → List ℕ → Type 0
 Tells r q seg re (due answer r′) re′ = Replies r q seg re (replyOf answer seg re′) r′ re′
@@ -68,11 +69,11 @@ Tells r q seg re (waits r′) re′ = Waits r q seg re r′ re′
 -- another reader from which the same is to come, and no more of it
 module _ (r x : Reader) (q p : Phase) (seg re re₁ : List ℕ) (l : lentOf x ≡ lentOf r) (m : undelivered (x .pending) p ≤ undelivered (r .pending) q) (agrees : Agrees (r .form) q seg → Agrees (x .form) p seg)
     (s : Agrees (r .form) q seg → (taken : ℕ) (stream : List ℕ) → restAt (lentOf r) (r .pending) q seg re taken stream ≡ restAt (lentOf x) (x .pending) p seg re₁ taken stream) where
-  replied : (reply : Reply Said ℕ) (r′ : Reader) (re′ : List ℕ) → Replies x p seg re₁ reply r′ re′ → Replies r q seg re reply r′ re′
+  replied : (reply : Reply Said Refusal) (r′ : Reader) (re′ : List ℕ) → Replies x p seg re₁ reply r′ re′ → Replies r q seg re reply r′ re′
   replied (handsOn said) r′ re′ t =
       record { lends = t .lends ∙ l; less = omega (arith, t .less); small = t .small; agrees = t .agrees; same = λ a taken stream. s a taken stream ∙ t .same (agrees a) taken stream }
   replied asksMore r′ re′ t = t
-  replied (refusesWith number) r′ re′ t = record { lends = t .lends ∙ l; stays = t .stays; same = λ a taken stream. s a taken stream ∙ t .same (agrees a) taken stream }
+  replied (refusesWith why) r′ re′ t = record { lends = t .lends ∙ l; stays = t .stays; same = λ a taken stream. s a taken stream ∙ t .same (agrees a) taken stream }
 
   pub before : (d : Due) (re′ : List ℕ) → Tells x p seg re₁ d re′ → Tells r q seg re d re′
   before (due answer r′) re′ t = replied (replyOf answer seg re′) r′ re′ t
@@ -82,7 +83,7 @@ module _ (r x : Reader) (q p : Phase) (seg re re₁ : List ℕ) (l : lentOf x �
 -- before a segment's first byte
 begins : (z : Lent) (pending : ℕ) (seg re : List ℕ) (taken : ℕ) (stream : List ℕ) → restAt z pending (inHeader 0) seg re taken stream ≡ meaningFrom z taken (take pending re) [] stream
 begins z pending seg re taken stream =
-    ap (λ (f : Front Segment). judged z f (take pending re) [] taken (λ pending′ s′. meaningFrom z taken pending′ s′ stream)) (nothing-seen z)
+    ap (λ (f : Front Refusal Segment). judged z f (take pending re) [] taken (λ pending′ s′. meaningFrom z taken pending′ s′ stream)) (nothing-seen z)
 
 module _ (r : Reader) (seg re : List ℕ) where
   abbrev z : Lent
@@ -130,10 +131,10 @@ module _ (r : Reader) (seg re : List ℕ) where
           same = λ a taken stream. left-over false e k taken stream ∙ ap (says (dated taken (leftoverOf (len - at)))) (sym (begins z (r .pending) seg re taken stream));
         }
 
-    tells-from : (f : Front Envelope) → envelope unread ≡ f → Tells r (inSegment len at) seg re (fromSegment r len at f) re
+    tells-from : (f : Front Refusal Envelope) → envelope unread ≡ f → Tells r (inSegment len at) seg re (fromSegment r len at f) re
     unfolding fromSegment leftoverDue
     tells-from incomplete e = tells-left (eqb (len - at) 0) refl e
-    tells-from (refuses number) e = record { lends = refl; stays = refl; same = λ a taken stream. first-refused taken segmentBuffer _ _ unread number e }
+    tells-from (refuses why) e = record { lends = refl; stays = refl; same = λ a taken stream. first-refused taken segmentBuffer _ _ unread why e }
     tells-from (whole v) e =
         let n : ℕ = v .size in
         let l : length unread ≡ len - at = unread-length in
@@ -166,7 +167,7 @@ module _ (r : Reader) (seg re : List ℕ) where
     abbrev unread-pending : List ℕ
     unread-pending = part re at (r .pending - at)
 
-    tells-pended : (f : Front Envelope) → envelope unread-pending ≡ f
+    tells-pended : (f : Front Refusal Envelope) → envelope unread-pending ≡ f
         → Tells r (inReassembly at) seg re (fromPending r re at f .says) (fromPending r re at f .reassembly)
     unfolding fromPending
     tells-pended incomplete e =
@@ -182,7 +183,7 @@ module _ (r : Reader) (seg re : List ℕ) where
               ∙ ap (λ (u : List ℕ). meaningFrom z taken u [] stream) (sym front)
               ∙ sym (begins z n seg (movedDown re at n) taken stream);
         }
-    tells-pended (refuses number) e = record { lends = refl; stays = refl; same = λ a taken stream. first-refused taken reassemblyBuffer _ _ unread-pending number e }
+    tells-pended (refuses why) e = record { lends = refl; stays = refl; same = λ a taken stream. first-refused taken reassemblyBuffer _ _ unread-pending why e }
     tells-pended (whole v) e =
         let n : ℕ = v .size in
         let l : length unread-pending ≡ r .pending - at = length-part re at (r .pending - at) (omega arith) in
@@ -211,14 +212,14 @@ module _ (r : Reader) (seg re : List ℕ) where
 
 module _ (r : Reader) (seg re : List ℕ) (n : ℕ) (q : r .phase ≡ inHeader n) (cap : length seg ≡ r .segment) where
   -- what is to come does not depend on whether the header was judged already
-  judged-by : {f : Front Header} → headerAt (r .form) (take n seg) ≡ f → (taken : ℕ) (stream : List ℕ)
+  judged-by : {f : Front Refusal Header} → headerAt (r .form) (take n seg) ≡ f → (taken : ℕ) (stream : List ℕ)
       → restAt (lentOf r) (r .pending) (inHeader n) seg re taken stream
       ≡ judged (lentOf r) (ifWhole f (behindHeader (lentOf r) (take n seg))) (take (r .pending) re) (take n seg) taken (λ pending′ s′. meaningFrom (lentOf r) taken pending′ s′ stream)
   judged-by e taken stream =
-      ap (λ (f : Front Segment). judged (lentOf r) f (take (r .pending) re) (take n seg) taken (λ pending′ s′. meaningFrom (lentOf r) taken pending′ s′ stream)) (by-header (lentOf r) (take n seg) e)
+      ap (λ (f : Front Refusal Segment). judged (lentOf r) f (take (r .pending) re) (take n seg) taken (λ pending′ s′. meaningFrom (lentOf r) taken pending′ s′ stream)) (by-header (lentOf r) (take n seg) e)
 
   tells-passed : (h : Header) → headerAt (r .form) (take n seg) ≡ whole h → headerLength (r .form) ≤ n → (t : Bool) → leb (segmentLength (r .form) (h .payload)) (length seg) ≡ t
-      → Tells r (inHeader n) seg re (cond t (waits (inPhase r (inRest n (h .payload) (h .self)))) (refusing 4 r)) re
+      → Tells r (inHeader n) seg re (cond t (waits (inPhase r (inRest n (h .payload) (h .self)))) (refusing segmentTooLong r)) re
   tells-passed h e there true t =
       record {
         lends = refl;
@@ -232,11 +233,11 @@ module _ (r : Reader) (seg re : List ℕ) (n : ℕ) (q : r .phase ≡ inHeader n
         stays = refl;
         same =
             λ a taken stream. judged-by e taken stream
-            ∙ ap (λ (b : Bool). judged (lentOf r) (cond b (payloadAt (r .form) (take n seg) h) (refuses 4)) (take (r .pending) re) (take n seg) taken (λ pending′ s′. meaningFrom (lentOf r) taken pending′ s′ stream))
+            ∙ ap (λ (b : Bool). judged (lentOf r) (cond b (payloadAt (r .form) (take n seg) h) (refuses segmentTooLong)) (take (r .pending) re) (take n seg) taken (λ pending′ s′. meaningFrom (lentOf r) taken pending′ s′ stream))
             (ap (leb (segmentLength (r .form) (h .payload))) (sym cap) ∙ t);
       }
 
-  pub tells-header : n ≤ length seg → (f : Front Header) → headerAt (r .form) (take n seg) ≡ f → Tells r (inHeader n) seg re (headerDue r n (length seg) f) re
+  pub tells-header : n ≤ length seg → (f : Front Refusal Header) → headerAt (r .form) (take n seg) ≡ f → Tells r (inHeader n) seg re (headerDue r n (length seg) f) re
   unfolding headerDue
   tells-header room incomplete e =
       record {
@@ -245,7 +246,7 @@ module _ (r : Reader) (seg re : List ℕ) (n : ℕ) (q : r .phase ≡ inHeader n
         agrees = λ a. subst (λ (p : Phase). Agrees (r .form) p seg) (sym q) tt;
         same = λ a taken stream. ap (λ (p : Phase). restAt (lentOf r) (r .pending) p seg re taken stream) (sym q);
       }
-  tells-header room (refuses number) e = record { lends = refl; stays = refl; same = λ a taken stream. judged-by e taken stream }
+  tells-header room (refuses why) e = record { lends = refl; stays = refl; same = λ a taken stream. judged-by e taken stream }
   tells-header room (whole h) e =
       let l : length (take n seg) ≡ n = length-take-le n seg room in
       tells-passed h e (omega (arith, header-found (r .form) (take n seg) e .room)) (leb (segmentLength (r .form) (h .payload)) (length seg)) refl
@@ -265,10 +266,10 @@ module _ (r : Reader) (seg re : List ℕ) (n len : ℕ) (self : Bool) (q : r .ph
   payload = part seg (headerLength (r .form)) len
 
   -- by what its bytes are behind the header
-  judged-so : {f : Front Segment} → payloadAt (r .form) s (header len 0 self) ≡ f → Agrees (r .form) (inRest n len self) seg → (taken : ℕ) (stream : List ℕ)
+  judged-so : {f : Front Refusal Segment} → payloadAt (r .form) s (header len 0 self) ≡ f → Agrees (r .form) (inRest n len self) seg → (taken : ℕ) (stream : List ℕ)
       → restAt (lentOf r) (r .pending) (inRest n len self) seg re taken stream ≡ judged (lentOf r) f (take (r .pending) re) s taken (goes-on taken stream)
   judged-so e a taken stream =
-      ap (λ (f : Front Segment). judged (lentOf r) f (take (r .pending) re) s taken (goes-on taken stream))
+      ap (λ (f : Front Refusal Segment). judged (lentOf r) f (take (r .pending) re) s taken (goes-on taken stream))
       (roomy-header (lentOf r) s (header len 0 self) (a .1) (omega arith) ∙ e)
 
   pending-length : length (take (r .pending) re) ≡ r .pending
@@ -281,16 +282,16 @@ module _ (r : Reader) (seg re : List ℕ) (n len : ℕ) (self : Bool) (q : r .ph
     -- self-contained
     by-pending : (own : Bool) → payloadAt (r .form) s (header len 0 self) ≡ whole (segment own payload) → own ≡ true → Agrees (r .form) (inRest n len self) seg → (taken : ℕ) (stream : List ℕ) → (t : Bool) → eqb (r .pending) 0 ≡ t
         → restAt (lentOf r) (r .pending) (inRest n len self) seg re taken stream
-        ≡ cond t (restAt (lentOf r) (r .pending) (inSegment len 0) seg re taken stream) (refusedAfter 6 taken)
+        ≡ cond t (restAt (lentOf r) (r .pending) (inSegment len 0) seg re taken stream) (refusedAfter unexpectedSelfContained taken)
     by-pending own e o a taken stream t k =
         judged-so (e ∙ ap (λ (b : Bool). whole (segment b payload)) o) a taken stream
-        ∙ ap₂ (λ (b : Bool) (n : ℕ). cond b (envelopesIn taken segmentBuffer n 0 (part seg n len) (λ unread. dropping taken unread (goes-on taken stream (take (r .pending) re) []))) (refusedAfter 6 taken))
+        ∙ ap₂ (λ (b : Bool) (n : ℕ). cond b (envelopesIn taken segmentBuffer n 0 (part seg n len) (λ unread. dropping taken unread (goes-on taken stream (take (r .pending) re) []))) (refusedAfter unexpectedSelfContained taken))
         (ap (λ (i : ℕ). eqb i 0) pending-length ∙ k) (sym (add-zero (headerLength (r .form))))
-        ∙ ap (λ (n : ℕ). cond t (envelopesIn taken segmentBuffer (headerLength (r .form) + 0) 0 (part seg (headerLength (r .form) + 0) n) (λ unread. dropping taken unread (goes-on taken stream (take (r .pending) re) []))) (refusedAfter 6 taken))
+        ∙ ap (λ (n : ℕ). cond t (envelopesIn taken segmentBuffer (headerLength (r .form) + 0) 0 (part seg (headerLength (r .form) + 0) n) (λ unread. dropping taken unread (goes-on taken stream (take (r .pending) re) []))) (refusedAfter unexpectedSelfContained taken))
         (let i : len ≡ len - 0 = omega arith in i)
 
     tells-alone : (own : Bool) → payloadAt (r .form) s (header len 0 self) ≡ whole (segment own payload) → own ≡ true → (t : Bool) → eqb (r .pending) 0 ≡ t
-        → Tells r (inRest n len self) seg re (cond t (readSegment r seg len 0) (refusing 6 r)) re
+        → Tells r (inRest n len self) seg re (cond t (readSegment r seg len 0) (refusing unexpectedSelfContained r)) re
     tells-alone own e o true k =
         before r r (inRest n len self) (inSegment len 0) seg re re refl (omega arith) (λ a. tt) (λ a taken stream. by-pending own e o a taken stream true k)
         (readSegment r seg len 0) re (tells-segment r seg re len 0 room (omega arith) wide)
@@ -300,17 +301,17 @@ module _ (r : Reader) (seg re : List ℕ) (n len : ℕ) (self : Bool) (q : r .ph
     module _ (own : Bool) (e : payloadAt (r .form) s (header len 0 self) ≡ whole (segment own payload)) (o : own ≡ false) where
       joined-by : Agrees (r .form) (inRest n len self) seg → (taken : ℕ) (stream : List ℕ) (t : Bool) → leb (r .pending + length payload) (length re) ≡ t
           → restAt (lentOf r) (r .pending) (inRest n len self) seg re taken stream
-          ≡ cond t (envelopesIn taken reassemblyBuffer 0 0 (take (r .pending) re ++ payload) (λ unread. goes-on taken stream unread [])) (refusedAfter 7 taken)
+          ≡ cond t (envelopesIn taken reassemblyBuffer 0 0 (take (r .pending) re ++ payload) (λ unread. goes-on taken stream unread [])) (refusedAfter reassemblyTooShort taken)
       joined-by a taken stream t k =
           judged-so (e ∙ ap (λ (b : Bool). whole (segment b payload)) o) a taken stream
-          ∙ ap (λ (b : Bool). cond b (envelopesIn taken reassemblyBuffer 0 0 (take (r .pending) re ++ payload) (λ unread. goes-on taken stream unread [])) (refusedAfter 7 taken))
+          ∙ ap (λ (b : Bool). cond b (envelopesIn taken reassemblyBuffer 0 0 (take (r .pending) re ++ payload) (λ unread. goes-on taken stream unread [])) (refusedAfter reassemblyTooShort taken))
           (ap₂ (λ (i c : ℕ). leb (i + length payload) c) pending-length (sym most) ∙ k)
 
       abbrev grown-reader : Reader
       grown-reader = keeping r (r .pending + length payload) (inReassembly 0)
 
       tells-joined : (t : Bool) → leb (r .pending + length payload) (length re) ≡ t
-          → (let d : Settled = cond t (readPending grown-reader (put re (r .pending) payload) 0) (settled (refusing 7 r) re) in Tells r (inRest n len self) seg re (d .says) (d .reassembly))
+          → (let d : Settled = cond t (readPending grown-reader (put re (r .pending) payload) 0) (settled (refusing reassemblyTooShort r) re) in Tells r (inRest n len self) seg re (d .says) (d .reassembly))
       tells-joined true k =
           let fits : r .pending + length payload ≤ length re = leb-true (r .pending + length payload) (length re) k in
           let re₁ : List ℕ = put re (r .pending) payload in
@@ -329,7 +330,7 @@ module _ (r : Reader) (seg re : List ℕ) (n len : ℕ) (self : Bool) (q : r .ph
     tells-received true e = tells-alone true e refl (eqb (r .pending) 0) refl
     tells-received false e = tells-joined false e refl (leb (r .pending + length payload) (length re)) refl
 
-  tells-due : {f : Front Segment} → Payloads (r .form) s (header len 0 self) f → payloadAt (r .form) s (header len 0 self) ≡ f
+  tells-due : {f : Front Refusal Segment} → Payloads (r .form) s (header len 0 self) f → payloadAt (r .form) s (header len 0 self) ≡ f
       → Tells r (inRest n len self) seg re (segmentDue r seg re len f .says) (segmentDue r seg re len f .reassembly)
   unfolding segmentDue
   tells-due (payload-cut l) e =
@@ -359,7 +360,7 @@ module _ (r : Reader) (seg re : List ℕ) (cap : length seg ≡ r .segment) (mos
   tells-at (inRest n len self) e k = tells-rest r seg re n len self e cap most (ok .held) (k .1) (k .2) (omega (arith, ok .most)) (ok .largest)
   tells-at (inSegment len at) e k = tells-segment r seg re len at (k .1) (k .2) (omega (arith, ok .most))
   tells-at (inReassembly at) e k = tells-pending r seg re at (ok .held) k (ok .largest)
-  tells-at (stopped number) e k = record { lends = refl; stays = e; same = λ a taken stream. refl }
+  tells-at (stopped why) e k = record { lends = refl; stays = e; same = λ a taken stream. refl }
 
   pub settle-tells : Tells r (r .phase) seg re (settle r seg re .says) (settle r seg re .reassembly)
   unfolding settle

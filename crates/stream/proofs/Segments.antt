@@ -12,6 +12,7 @@ use lib.ListN.{length, take, drop, length-append, take-append-drop}
 use lib.Seq.{length-take-le}
 use Rattle.basis.specs.Front.{Front, incomplete, refuses, whole, ifWhole}
 use Rattle.basis.proofs.Fronts.{not-refused, not-whole}
+use Rattle.refusal.specs.Refusal.{Refusal, segmentTooLong}
 use Rattle.segment.specs.Header.{Form, Header, headerLength}
 use Rattle.segment.specs.Segment.{Segment, segmentLength, headerAt, payloadAt}
 use Rattle.segment.proofs.Cases.{fieldsAt, Headers, head-cut, head-differs, head-compressed, head-good, header-case, Payloads, payload-cut, payload-differs, payload-good, payload-is, payload-case}
@@ -30,9 +31,9 @@ module _ (z : Lent) (s : List ℕ) where
     same-header : head ≤ length y → headerAt (z .form) y ≡ headerAt (z .form) s
     same-header h = sym (header-behind (z .form) y y′ h) ∙ ap (headerAt (z .form)) q
 
-    behind-head : head ≤ length y → (f : Front Header) → headerAt (z .form) s ≡ f → length y < lastOf z f → segmentIn z y ≡ incomplete
+    behind-head : head ≤ length y → (f : Front Refusal Header) → headerAt (z .form) s ≡ f → length y < lastOf z f → segmentIn z y ≡ incomplete
     behind-head h incomplete e k = absurd (omega arith)
-    behind-head h (refuses number) e k = absurd (omega arith)
+    behind-head h (refuses why) e k = absurd (omega arith)
     behind-head h (whole x) e k = by-room (leb (segmentLength (z .form) (x .payload)) (z .segment)) refl k
       where
         by-room : (t : Bool) → leb (segmentLength (z .form) (x .payload)) (z .segment) ≡ t → length y < cond t (segmentLength (z .form) (x .payload)) head → segmentIn z y ≡ incomplete
@@ -50,9 +51,9 @@ module _ (z : Lent) (s : List ℕ) where
 
   -- ---- with its last byte it is judged, and bytes behind change nothing
 
-  last-least : (f : Front Header) → head ≤ lastOf z f
+  last-least : (f : Front Refusal Header) → head ≤ lastOf z f
   last-least incomplete = omega arith
-  last-least (refuses number) = omega arith
+  last-least (refuses why) = omega arith
   last-least (whole h) = by-room (leb (segmentLength (z .form) (h .payload)) (z .segment))
     where
       by-room : (t : Bool) → head ≤ cond t (segmentLength (z .form) (h .payload)) head
@@ -67,12 +68,12 @@ module _ (z : Lent) (s : List ℕ) where
     header-there : head ≤ length x
     header-there = omega (arith, judged-least)
 
-    same-behind : (f : Front Header) → length x ≡ lastOf z f → ifWhole f (behindHeader z x) ≡ ifWhole f (behindHeader z s)
+    same-behind : (f : Front Refusal Header) → length x ≡ lastOf z f → ifWhole f (behindHeader z x) ≡ ifWhole f (behindHeader z s)
     same-behind incomplete l = refl
-    same-behind (refuses number) l = refl
+    same-behind (refuses why) l = refl
     same-behind (whole h) l = by-room (leb (segmentLength (z .form) (h .payload)) (z .segment)) l
       where
-        by-room : (t : Bool) → length x ≡ cond t (segmentLength (z .form) (h .payload)) head → cond t (payloadAt (z .form) x h) (refuses 4) ≡ cond t (payloadAt (z .form) s h) (refuses 4)
+        by-room : (t : Bool) → length x ≡ cond t (segmentLength (z .form) (h .payload)) head → cond t (payloadAt (z .form) x h) (refuses segmentTooLong) ≡ cond t (payloadAt (z .form) s h) (refuses segmentTooLong)
         by-room true l = sym (payload-behind (z .form) x x′ h (omega arith)) ∙ ap (λ (y : List ℕ). payloadAt (z .form) y h) q
         by-room false l = refl
 
@@ -86,18 +87,18 @@ module _ (z : Lent) (s : List ℕ) where
     payload-there : (h : Header) → segmentLength (z .form) (h .payload) ≤ length s → payloadAt (z .form) s h ≡ incomplete → ⊥
     payload-there h l e = go (payload-case (z .form) s h) e
       where
-        go : {f : Front Segment} → Payloads (z .form) s h f → f ≡ incomplete → ⊥
+        go : {f : Front Refusal Segment} → Payloads (z .form) s h f → f ≡ incomplete → ⊥
         go (payload-cut k) e = omega arith
         go (payload-differs k c) e = not-refused (sym e)
         go (payload-good k c) e = not-whole (sym e)
 
-    behind-there : {f : Front Header} → Headers (z .form) s f → lastOf z f ≤ length s → ifWhole f (behindHeader z s) ≡ incomplete → ⊥
+    behind-there : {f : Front Refusal Header} → Headers (z .form) s f → lastOf z f ≤ length s → ifWhole f (behindHeader z s) ≡ incomplete → ⊥
     behind-there (head-cut l) k e = omega arith
     behind-there (head-differs l c) k e = not-refused (sym e)
     behind-there (head-compressed l c u) k e = not-refused (sym e)
     behind-there (head-good l c u) k e = by-room (fieldsAt (z .form) s) (leb (segmentLength (z .form) (fieldsAt (z .form) s .payload)) (z .segment)) k e
       where
-        by-room : (h : Header) (t : Bool) → cond t (segmentLength (z .form) (h .payload)) head ≤ length s → cond t (payloadAt (z .form) s h) (refuses 4) ≡ incomplete → ⊥
+        by-room : (h : Header) (t : Bool) → cond t (segmentLength (z .form) (h .payload)) head ≤ length s → cond t (payloadAt (z .form) s h) (refuses segmentTooLong) ≡ incomplete → ⊥
         by-room h true k e = payload-there h k e
         by-room h false k e = not-refused (sym e)
 
@@ -119,7 +120,7 @@ module _ (z : Lent) where
       let a : s₁ ++ x ≡ s₀ ++ b ∷ x = append-assoc s₀ (b ∷ []) x in
       let l : length s₁ ≡ length s₀ + 1 = length-append s₀ (b ∷ []) in
       let n : suc taken + length x ≡ taken + suc (length x) = omega arith in
-      ap (λ (f : Front Segment). judged z f pending s₁ (suc taken) (λ pending′ s′. meaningFrom z (suc taken) pending′ s′ (x ++ stream))) (u s₁ x a (omega arith))
+      ap (λ (f : Front Refusal Segment). judged z f pending s₁ (suc taken) (λ pending′ s′. meaningFrom z (suc taken) pending′ s′ (x ++ stream))) (u s₁ x a (omega arith))
       ∙ at-hand x s₁ (suc taken) pending stream (λ y y′ q h. u y y′ (q ∙ a) (omega arith))
       ∙ ap₂ (λ (k : ℕ) (s : List ℕ). meaningFrom z k pending s stream) n a
 
@@ -147,16 +148,16 @@ module _ (z : Lent) where
         (λ y y′ e h. unfinished z s y (y′ ++ (b ∷ stream)) (sym (append-assoc y y′ (b ∷ stream)) ∙ ap (λ (i : List ℕ). i ++ (b ∷ stream)) e ∙ sym (append-assoc init (b ∷ []) stream) ∙ q)
         (omega (arith, length-append y y′, ap length e)))
         ∙ last-byte (taken + length init) pending init b stream
-        ∙ ap₂ (λ (f : Front Segment) (k : ℕ). judged z f pending x k (λ pending′ s′. meaningFrom z k pending′ s′ stream)) (judged-same z s x stream q n) t
+        ∙ ap₂ (λ (f : Front Refusal Segment) (k : ℕ). judged z f pending x k (λ pending′ s′. meaningFrom z k pending′ s′ stream)) (judged-same z s x stream q n) t
 
     -- a segment that is there is refused or whole
-    ends : (x : List ℕ) → judgedAt z s ≤ length s → (f : Front Segment) → segmentIn z s ≡ f
+    ends : (x : List ℕ) → judgedAt z s ≤ length s → (f : Front Refusal Segment) → segmentIn z s ≡ f
         → judged z (segmentIn z s) pending x (taken + judgedAt z s) (λ pending′ s′. meaningFrom z (taken + judgedAt z s) pending′ s′ (drop (judgedAt z s) s)) ≡ byFirst z f taken pending s (judgedAt z s)
     ends x h incomplete e = absurd (finished z s h e)
-    ends x h (refuses number) e = ap (λ (g : Front Segment). judged z g pending x (taken + judgedAt z s) (λ pending′ s′. meaningFrom z (taken + judgedAt z s) pending′ s′ (drop (judgedAt z s) s))) e
-    ends x h (whole g) e = ap (λ (g : Front Segment). judged z g pending x (taken + judgedAt z s) (λ pending′ s′. meaningFrom z (taken + judgedAt z s) pending′ s′ (drop (judgedAt z s) s))) e
+    ends x h (refuses why) e = ap (λ (g : Front Refusal Segment). judged z g pending x (taken + judgedAt z s) (λ pending′ s′. meaningFrom z (taken + judgedAt z s) pending′ s′ (drop (judgedAt z s) s))) e
+    ends x h (whole g) e = ap (λ (g : Front Refusal Segment). judged z g pending x (taken + judgedAt z s) (λ pending′ s′. meaningFrom z (taken + judgedAt z s) pending′ s′ (drop (judgedAt z s) s))) e
 
-    there : judgedAt z s ≤ length s → (f : Front Segment) → segmentIn z s ≡ f → meaningFrom z taken pending [] s ≡ byFirst z f taken pending s (judgedAt z s)
+    there : judgedAt z s ≤ length s → (f : Front Refusal Segment) → segmentIn z s ≡ f → meaningFrom z taken pending [] s ≡ byFirst z f taken pending s (judgedAt z s)
     there h f e =
         let k : ℕ = judgedAt z s in
         let l : length (take k s) ≡ k = length-take-le k s h in
@@ -165,12 +166,12 @@ module _ (z : Lent) where
         last-judged (i .0) (i .1) (drop k s) (ap (λ (y : List ℕ). y ++ drop k s) (sym (i .2)) ∙ take-append-drop k s) (ap length (sym (i .2)) ∙ l)
         ∙ ends x h f e
 
-    cut : length s < judgedAt z s → (f : Front Segment) → segmentIn z s ≡ f → meaningFrom z taken pending [] s ≡ byFirst z f taken pending s (judgedAt z s)
+    cut : length s < judgedAt z s → (f : Front Refusal Segment) → segmentIn z s ≡ f → meaningFrom z taken pending [] s ≡ byFirst z f taken pending s (judgedAt z s)
     unfolding meaningFrom
     cut k f e =
         ap (meaningFrom z taken pending []) (sym (append-nil s))
         ∙ at-hand s [] taken pending [] (λ y y′ q h. unfinished z s y y′ q (omega (arith, length-append y y′, ap length q)))
-        ∙ ap (λ (g : Front Segment). byFirst z g taken pending s (judgedAt z s)) (sym (unfinished z s s [] (append-nil s) k) ∙ e)
+        ∙ ap (λ (g : Front Refusal Segment). byFirst z g taken pending s (judgedAt z s)) (sym (unfinished z s s [] (append-nil s) k) ∙ e)
 
     -- Up to its end or its refusal, the bytes of a stream are those of its first segment; what comes behind it is read in the same way.
     pub segment-by-segment : meaningFrom z taken pending [] s ≡ segmentwise z taken pending s

@@ -10,6 +10,7 @@ use lib.ListN.{length, take, drop, length-append, take-append-drop}
 use lib.Seq.{length-take-le, take-length}
 use Rattle.basis.specs.Front.{Front, incomplete, whole, ifWhole}
 use Rattle.basis.specs.Machine.{Dated}
+use Rattle.refusal.specs.Refusal.{Refusal}
 use Rattle.types.specs.Write.{joined}
 use Rattle.types.specs.ThereAndBack.{Holds, Stands}
 use Rattle.types.proofs.Holds.{accepted}
@@ -157,7 +158,7 @@ module _ (f : Form) (s q : List ℕ) (self : Bool) (p : List ℕ) (e : segmentAt
   by-itself =
       let i : Found f (s ++ q) self p = found f (s ++ q) self p e in
       let n : i .head .payload ≡ length p = i .long in
-      ap (λ (x : Front Header). ifWhole x (payloadAt f s)) (sym (header-behind f s q (omega arith)) ∙ i .header) ∙ sym (payload-behind f s q (i .head) (omega arith)) ∙ i .payload
+      ap (λ (x : Front Refusal Header). ifWhole x (payloadAt f s)) (sym (header-behind f s q (omega arith)) ∙ i .header) ∙ sym (payload-behind f s q (i .head) (omega arith)) ∙ i .payload
 
 -- what a writer put at an output's front, and as much of it as it says
 went-out : (f : Form) (self : Bool) (p out end : List ℕ) (size : ℕ) → Sent f self p out end size → WholeSegment f (take size end) self p

@@ -13,6 +13,7 @@ use Rattle.basis.specs.Front.{incomplete, whole}
 use Rattle.basis.specs.Lists.{joined}
 use Rattle.basis.specs.Machine.{Reply, handsOn, asksMore, refusesWith, Step, step, Dated, dated, says, refusedAfter, holding, saying, usedUp, Uses, by-more, after-one, Hears, all-given, one-used, one-refused}
 use Rattle.basis.proofs.Machine.{Kept, Does}
+use Rattle.refusal.specs.Refusal.{Refusal}
 use Rattle.types.specs.Number.{be, beFrom}
 use Rattle.types.specs.Read.{Place, place}
 use Rattle.segment.specs.Header.{Form, short, headerLength}
@@ -37,7 +38,7 @@ use Rattle.stream.proofs.Demand3.{demand-3}
 
 answerTag : Answer → ℕ
 answerTag more = 0
-answerTag (refused number) = 1
+answerTag (refused why) = 1
 answerTag (leftover n) = 2
 answerTag (envelopeAt buffer at e) = 3
 
@@ -46,7 +47,7 @@ named : {buffer : Buffer} {at : Place} {bytes : List ℕ} {v : Envelope} (answer
 named (envelopeAt buffer at e) seg re q = cc
 named (leftover n) seg re q = let z : _≡_ {A = ℕ} 0 1 = cc in let f : ⊥ = omega arith in absurd f
 named more seg re q = let z : _≡_ {A = ℕ} 0 1 = cc in let f : ⊥ = omega arith in absurd f
-named (refused number) seg re q = let z : _≡_ {A = ℕ} 0 1 = cc in let f : ⊥ = omega arith in absurd f
+named (refused why) seg re q = let z : _≡_ {A = ℕ} 0 1 = cc in let f : ⊥ = omega arith in absurd f
 
 -- ---- what is heard of one piece, call by call
 
@@ -56,7 +57,7 @@ answers-said (x ∷ xs) m = ap (λ (l : List (Dated Said)). x ∷ l) (answers-sa
 
 stops : Meaning → ℕ
 stops (says x m) = stops m
-stops (refusedAfter number taken) = 1
+stops (refusedAfter why taken) = 1
 stops (holding h) = 0
 
 stops-said : (xs : List (Dated Said)) (m : Meaning) → stops (saying xs m) ≡ stops m
@@ -136,14 +137,14 @@ module _ (f : Form) (seg re : List ℕ) (range : inRange (length seg) (length re
 
   -- the first call names P5
   pub first-call : first-outcome .answer ≡ envelopeAt segmentBuffer (place (headerLength f) 9) readingOfP5
-  first-call = named (first-outcome .answer) (first-outcome .segment) (first-outcome .reassembly) (ap (λ (o : Step State Said ℕ). o .reply) (calls .first))
+  first-call = named (first-outcome .answer) (first-outcome .segment) (first-outcome .reassembly) (ap (λ (o : Step State Said Refusal). o .reply) (calls .first))
 
   -- the second, with the rest of the piece and what the first left untouched, P6
   pub second-call : call (first-outcome .reader) (first-outcome .segment) (first-outcome .reassembly) (drop (first-outcome .taken) line) .answer ≡ envelopeAt segmentBuffer (place (headerLength f + 9) 9) readingOfP6
   second-call =
       let o = call (first-outcome .reader) (first-outcome .segment) (first-outcome .reassembly) (drop (first-outcome .taken) line) in
       named (o .answer) (o .segment) (o .reassembly)
-      (ap (λ (i : Step State Said ℕ). reads (i .next) (drop (i .taken) line) .reply) (calls .first) ∙ ap (λ (i : Step State Said ℕ). i .reply) (calls .second))
+      (ap (λ (i : Step State Said Refusal). reads (i .next) (drop (i .taken) line) .reply) (calls .first) ∙ ap (λ (i : Step State Said Refusal). i .reply) (calls .second))
 
 -- ---- shut out
 
@@ -194,7 +195,7 @@ module _ (R : Reads) (keeps : Keeps R) where
     where
       opcodeOf : ℕ → Answer → ℕ
       opcodeOf d more = d
-      opcodeOf d (refused number) = d
+      opcodeOf d (refused why) = d
       opcodeOf d (leftover n) = d
       opcodeOf d (envelopeAt buffer at v) = v .header .opcode
 
@@ -214,7 +215,7 @@ module _ (R : Reads) (keeps : Keeps R) where
   taken-is-the-streams-own f seg re pieces asked {m} h =
       ap datesOf
       (pieces-do-not-matter f seg re pieces asked
-      (subst (λ (c : State → List ℕ → Step State Said ℕ). Hears c holds (start f seg re) 0 pieces m) (fun-ext (λ s. fun-ext (λ piece. ap stepOf (keeps (s .reader) (s .segment) (s .reassembly) piece)))) h))
+      (subst (λ (c : State → List ℕ → Step State Said Refusal). Hears c holds (start f seg re) 0 pieces m) (fun-ext (λ s. fun-ext (λ piece. ap stepOf (keeps (s .reader) (s .segment) (s .reassembly) piece)))) h))
 
   -- of every reader, over all buffers and every piece: no more is taken than is there, and where more is asked for, all of it
   pub taken-is-a-length : (r : Reader) (seg re piece : List ℕ) → (R r seg re piece .taken ≤ length piece) × (R r seg re piece .answer ≡ more → R r seg re piece .taken ≡ length piece)
@@ -227,7 +228,7 @@ module _ (R : Reads) (keeps : Keeps R) where
 
       all : {n : ℕ} (t : State) (answer : Answer) (seg re : List ℕ) → Does reader s piece n (replyOf answer seg re) t → answer ≡ more → n ≡ length piece
       all t more seg re d e = d .all
-      all t (refused number) seg re d e = absurd (let z : _≡_ {A = ℕ} 1 0 = ap answerTag e in omega arith)
+      all t (refused why) seg re d e = absurd (let z : _≡_ {A = ℕ} 1 0 = ap answerTag e in omega arith)
       all t (leftover n) seg re d e = absurd (let z : _≡_ {A = ℕ} 2 0 = ap answerTag e in omega arith)
       all t (envelopeAt buffer at v) seg re d e = absurd (let z : _≡_ {A = ℕ} 3 0 = ap answerTag e in omega arith)
 

@@ -8,6 +8,7 @@ use lib.ListN.{length, take, drop, length-drop, take-append-drop}
 use lib.Seq.{drop-drop, drop-length, length-take-le}
 use Rattle.basis.specs.Machine.{Dated, dated, says, refusedAfter, holding, saying, Close, usedUp, refusedWith, Uses, by-more, by-refusal, after-one}
 use Rattle.basis.proofs.Machine.{Hands, Kept, kept-by, Told, told, one-then, refused-longer}
+use Rattle.refusal.specs.Refusal.{Refusal, inadmissible}
 use Rattle.types.specs.Number.{part}
 use Rattle.types.specs.Read.{Place}
 use Rattle.types.proofs.BigEndian.{length-part}
@@ -131,16 +132,16 @@ module _ (stream : List ℕ) (end : ℕ) (w : Way) (g : Going stream w) (h : w .
           };
         }
 
-    pub refused-turn : {number : ℕ} → call (w .at .reader) (w .at .segment) (w .at .reassembly) piece ≡ outcome (refused number) n x seg′ re′
-        → Over stream w (w .tape) (refusedEnd number (w .taken + n)) seg′ re′
-    refused-turn {number} e =
+    pub refused-turn : {why : Refusal} → call (w .at .reader) (w .at .segment) (w .at .reassembly) piece ≡ outcome (refused why) n x seg′ re′
+        → Over stream w (w .tape) (refusedEnd why (w .taken + n)) seg′ re′
+    refused-turn {why} e =
         record {
           handed = [];
-          close = refusedWith number;
+          close = refusedWith why;
           taken = w .taken + n;
           reader = x;
           gives =
-              subst (λ (l : List ℕ). Uses reads (w .at) (w .taken) l [] (refusedWith number) (w .taken + n) (state x seg′ re′)) parted
+              subst (λ (l : List ℕ). Uses reads (w .at) (w .taken) l [] (refusedWith why) (w .taken + n) (state x seg′ re′)) parted
               (refused-longer reader lawful behind (g .ready) (by-refusal (ap stepOf e)));
           notes = refl;
           ends = refl;
@@ -175,7 +176,7 @@ module _ (stream : List ℕ) (v : Way) (g : Going stream v) (all : v .taken ≡ 
       (sym (length-take-le (r .pending) re (g .ready .ok .held)))
   held-end (inSegment len at) k w = absurd (omega arith)
   held-end (inReassembly at) k w = absurd (omega arith)
-  held-end (stopped number) k w = absurd (omega arith)
+  held-end (stopped why) k w = absurd (omega arith)
 
   pub over-waiting : Over stream v (v .tape) (heldEnd (filledOf (r .phase)) (take (filledOf (r .phase)) seg) (r .pending) (take (r .pending) re)) seg re
   over-waiting =
@@ -200,17 +201,17 @@ pub end-saying : (xs : List (Dated Said)) (m : Meaning) → endOf (saying xs m) 
 end-saying [] m = refl
 end-saying (x ∷ xs) m = end-saying xs m
 
-abbrev closing : Close ℕ → ℕ → State → Meaning
+abbrev closing : Close Refusal → ℕ → State → Meaning
 closing usedUp n t = holding (holds t)
-closing (refusedWith number) n t = refusedAfter number n
+closing (refusedWith why) n t = refusedAfter why n
 
-closing-tape : (c : Close ℕ) (n : ℕ) (s : State) (t : Tape) → collected (closing c n s) t ≡ t
+closing-tape : (c : Close Refusal) (n : ℕ) (s : State) (t : Tape) → collected (closing c n s) t ≡ t
 closing-tape usedUp n s t = refl
-closing-tape (refusedWith number) n s t = refl
+closing-tape (refusedWith why) n s t = refl
 
-closing-end : (c : Close ℕ) (n : ℕ) (s : State) → endOf (closing c n s) ≡ endingOf c n s
+closing-end : (c : Close Refusal) (n : ℕ) (s : State) → endOf (closing c n s) ≡ endingOf c n s
 closing-end usedUp n s = refl
-closing-end (refusedWith number) n s = refl
+closing-end (refusedWith why) n s = refl
 
 module _ (f : Form) (seg re stream envelopes marks : List ℕ) where
   -- a fresh reader before the stream's first byte
@@ -221,13 +222,13 @@ module _ (f : Form) (seg re stream envelopes marks : List ℕ) where
     pub start-going : Going stream first
     start-going = record { ready = fresh-ready f seg re range; untouched = tt; within = omega arith }
 
-    closes : (c : Close ℕ) {xs : List (Dated Said)} {n : ℕ} {t : State} → Told reader lawful (start f seg re) 0 stream xs c n t → heardOf f (length seg) (length re) stream ≡ saying xs (closing c n t)
+    closes : (c : Close Refusal) {xs : List (Dated Said)} {n : ℕ} {t : State} → Told reader lawful (start f seg re) 0 stream xs c n t → heardOf f (length seg) (length re) stream ≡ saying xs (closing c n t)
     closes usedUp {xs} {n} {t} i =
         sym (fresh-rest f seg re range stream)
         ∙ ap (reader .rest (start f seg re) 0) (sym (append-nil stream))
         ∙ i .same tt []
         ∙ ap (saying xs) (lawful .quiet t n (i .good) (i .rests .2 tt) (i .rests .1))
-    closes (refusedWith number) i = sym (fresh-rest f seg re range stream) ∙ ap (reader .rest (start f seg re) 0) (sym (append-nil stream)) ∙ i .same tt []
+    closes (refusedWith why) i = sym (fresh-rest f seg re range stream) ∙ ap (reader .rest (start f seg re) 0) (sym (append-nil stream)) ∙ i .same tt []
 
     pub start-over : {t : Tape} {e : Ending} {S R : List ℕ} → Over stream first t e S R → HeardAs f seg re stream envelopes marks t e S R
     start-over {t} {e} {S} {R} o =
@@ -244,10 +245,10 @@ module _ (f : Form) (seg re stream envelopes marks : List ℕ) where
         }
 
   -- lengths out of range
-  pub start-refused : inRange (length seg) (length re) ≡ false → HeardAs f seg re stream envelopes marks (blank envelopes marks) (refusedEnd 1 0) seg re
+  pub start-refused : inRange (length seg) (length re) ≡ false → HeardAs f seg re stream envelopes marks (blank envelopes marks) (refusedEnd inadmissible 0) seg re
   start-refused range =
       record {
         tells = sym (ap (λ (m : Meaning). collected m (blank envelopes marks)) (heard-none f seg re range stream));
         ends = sym (ap endOf (heard-none f seg re range stream));
-        leaves = record { handed = []; close = refusedWith 1; taken = 0 + 0; reader = start f seg re .reader; uses = by-refusal (out-of-range f seg re range stream) };
+        leaves = record { handed = []; close = refusedWith inadmissible; taken = 0 + 0; reader = start f seg re .reader; uses = by-refusal (out-of-range f seg re range stream) };
       }

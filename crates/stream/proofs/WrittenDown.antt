@@ -67,7 +67,7 @@ module _ (x : Dated Said) (t : Tape) where
 
 -- once something had no room, nothing more is written down, and it says so
 incomplete-stays : (m : Meaning) (t : Tape) → t .complete ≡ false → collected m t .complete ≡ false
-incomplete-stays (refusedAfter number taken) t e = e
+incomplete-stays (refusedAfter why taken) t e = e
 incomplete-stays (holding h) t e = e
 incomplete-stays (says x m) t e =
     incomplete-stays m (noted (bytesOf (x .what)) (markOf (x .what)) t)
@@ -77,7 +77,7 @@ true-false : {A : Type 0} {b : Bool} → b ≡ true → b ≡ false → A
 true-false {A} p q = absurd (let z : _≡_ {A = ℕ} 1 0 = ap (λ (b : Bool). cond b 1 0) (sym p ∙ q) in omega arith)
 
 collected-holds : (m : Meaning) (t : Tape) (xs : List (Dated Said)) → WrittenDown t xs → collected m t .complete ≡ true → WrittenDown (collected m t) (xs ++ answersOf m)
-collected-holds (refusedAfter number taken) t xs h c = subst (WrittenDown t) (sym (append-nil xs)) h
+collected-holds (refusedAfter why taken) t xs h c = subst (WrittenDown t) (sym (append-nil xs)) h
 collected-holds (holding held) t xs h c = subst (WrittenDown t) (sym (append-nil xs)) h
 collected-holds (says x m) t xs h c = by (room x t) refl (λ k i d. collected-holds m k (xs ++ x ∷ []) i d)
   where

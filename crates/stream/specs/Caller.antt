@@ -4,6 +4,7 @@ use mathlib.Core.Bool.{Bool, true, false, cond, _&&_}
 use mathlib.Core.List.{List, [], _∷_}
 use lib.ListN.{length, take}
 use Rattle.basis.specs.Machine.{Reply, handsOn, asksMore, refusesWith, Step, step, Dated, refusedAfter, Close, Uses, Hears}
+use Rattle.refusal.specs.Refusal.{Refusal, inadmissible}
 use Rattle.types.specs.Number.{part}
 use Rattle.segment.specs.Header.{Form}
 use Rattle.frame_decoder.specs.Reader.{Phase, inHeader, inRest, inSegment, inReassembly, stopped, Reader, fresh, bytesAt, Answer, envelopeAt, leftover, more, refused, minSegment, maxSegment, minReassembly, maxReassembly, between}
@@ -22,17 +23,17 @@ abbrev pub state : Reader → List ℕ → List ℕ → State
 state r segment reassembly = record { reader = r; segment = segment; reassembly = reassembly }
 
 -- what is heard of an answer, the buffers then holding this; an envelope with its place and its bytes
-abbrev pub replyOf : Answer → List ℕ → List ℕ → Reply Said ℕ
+abbrev pub replyOf : Answer → List ℕ → List ℕ → Reply Said Refusal
 replyOf (envelopeAt buffer at e) segment reassembly = handsOn (envelopeOf buffer at (bytesAt buffer segment reassembly at) e)
 replyOf (leftover n) segment reassembly = handsOn (leftoverOf n)
 replyOf more segment reassembly = asksMore
-replyOf (refused number) segment reassembly = refusesWith number
+replyOf (refused why) segment reassembly = refusesWith why
 
-abbrev pub stepOf : Outcome → Step State Said ℕ
+abbrev pub stepOf : Outcome → Step State Said Refusal
 stepOf o = step (replyOf (o .answer) (o .segment) (o .reassembly)) (o .taken) (state (o .reader) (o .segment) (o .reassembly))
 
 -- one call of the reader
-abbrev pub reads : State → List ℕ → Step State Said ℕ
+abbrev pub reads : State → List ℕ → Step State Said Refusal
 reads s piece = stepOf (call (s .reader) (s .segment) (s .reassembly) piece)
 
 -- ---- 6.11: the bytes held
@@ -42,14 +43,14 @@ segmentHeld (inHeader n) segment = take n segment
 segmentHeld (inRest n len self) segment = take n segment
 segmentHeld (inSegment len at) segment = []
 segmentHeld (inReassembly at) segment = []
-segmentHeld (stopped number) segment = []
+segmentHeld (stopped why) segment = []
 
 abbrev pub pendingHeld : ℕ → Phase → List ℕ → List ℕ
 pendingHeld pending (inHeader n) reassembly = take pending reassembly
 pendingHeld pending (inRest n len self) reassembly = take pending reassembly
 pendingHeld pending (inSegment len at) reassembly = take pending reassembly
 pendingHeld pending (inReassembly at) reassembly = part reassembly at (pending - at)
-pendingHeld pending (stopped number) reassembly = []
+pendingHeld pending (stopped why) reassembly = []
 
 abbrev pub holds : State → Held
 holds s = held (segmentHeld (s .reader .phase) (s .segment)) (pendingHeld (s .reader .pending) (s .reader .phase) (s .reassembly))
@@ -60,7 +61,7 @@ undelivered pending (inHeader n) = n + pending
 undelivered pending (inRest n len self) = n + pending
 undelivered pending (inSegment len at) = len - at + pending
 undelivered pending (inReassembly at) = pending - at
-undelivered pending (stopped number) = 0
+undelivered pending (stopped why) = 0
 
 -- ---- a fresh reader
 
@@ -78,7 +79,7 @@ HearsOf form segment reassembly pieces m = Hears reads holds (start form segment
 
 -- what the stream means to it: 1 where a lent length is out of range
 unfoldable pub heardOf : Form → ℕ → ℕ → List ℕ → Meaning
-heardOf form segment reassembly stream = cond (inRange segment reassembly) (meaning (lent form segment reassembly) stream) (refusedAfter 1 0)
+heardOf form segment reassembly stream = cond (inRange segment reassembly) (meaning (lent form segment reassembly) stream) (refusedAfter inadmissible 0)
 
 -- without a call 1 is not heard: a piece is given, empty or not, or the lengths are in range
 abbrev pub Asked : Bool → List (List ℕ) → Type 0
@@ -91,7 +92,7 @@ Asked false (piece ∷ pieces) = Unit {0}
 -- what the two buffers hold once a piece is used up
 pub record Leaves (s : State) (piece segment reassembly : List ℕ) : Type 0 where
   pub handed : List (Dated Said)
-  pub close : Close ℕ
+  pub close : Close Refusal
   pub taken : ℕ
   pub reader : Reader
   pub uses : Uses reads s 0 piece handed close taken (state reader segment reassembly)

@@ -6,6 +6,7 @@ use mathlib.Core.List.{List, [], _∷_, map}
 use lib.Dec.{leb, ltb}
 use lib.ListN.{length, take, set}
 use Rattle.basis.specs.Machine.{Dated, says, refusedAfter, holding}
+use Rattle.refusal.specs.Refusal.{Refusal}
 use Rattle.types.specs.Write.{put, joined}
 use Rattle.segment.specs.Header.{Form}
 use Rattle.stream.specs.Meaning.{Said, envelopeOf, leftoverOf, Meaning}
@@ -56,17 +57,17 @@ noted bytes mark t =
 
 abbrev pub collected : Meaning → Tape → Tape
 collected (says x m) t = collected m (noted (bytesOf (x .what)) (markOf (x .what)) t)
-collected (refusedAfter number taken) t = t
+collected (refusedAfter why taken) t = t
 collected (holding h) t = t
 
--- how it ends: a refusal's number and how many bytes were taken; or how many bytes of an unfinished segment are held, and which, and how many pending ones, and which
+-- how it ends: a refusal and how many bytes were taken; or how many bytes of an unfinished segment are held, and which, and how many pending ones, and which
 pub data Ending : Type 0 where
-  refusedEnd : ℕ → ℕ → Ending
+  refusedEnd : Refusal → ℕ → Ending
   heldEnd : ℕ → List ℕ → ℕ → List ℕ → Ending
 
 abbrev pub endOf : Meaning → Ending
 endOf (says x m) = endOf m
-endOf (refusedAfter number taken) = refusedEnd number taken
+endOf (refusedAfter why taken) = refusedEnd why taken
 endOf (holding h) = heldEnd (length (h .segment)) (h .segment) (length (h .pending)) (h .pending)
 
 -- ---- of a stream
@@ -82,7 +83,7 @@ pub record HeardAs (form : Form) (segment reassembly stream envelopes marks : Li
 -- the answers of a meaning, without its end
 abbrev pub answersOf : Meaning → List (Dated Said)
 answersOf (says x m) = x ∷ answersOf m
-answersOf (refusedAfter number taken) = []
+answersOf (refusedAfter why taken) = []
 answersOf (holding h) = []
 
 -- these answers are written down: a mark for each, and the bytes of the envelopes one after the other

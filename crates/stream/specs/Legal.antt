@@ -8,6 +8,7 @@ use lib.Dec.{leb}
 use lib.ListN.{length}
 use Rattle.basis.specs.Front.{whole}
 use Rattle.basis.specs.Machine.{Dated, dated, says, refusedAfter, holding, saying}
+use Rattle.refusal.specs.Refusal.{segmentTooLong, reassemblyTooShort}
 use Rattle.types.specs.Read.{place}
 use Rattle.segment.specs.Header.{Form, headerLength}
 use Rattle.segment.specs.Segment.{segment, segmentLength, segmentAt}
@@ -89,7 +90,7 @@ exactly answers = saying answers (holding (held [] []))
 -- 4 and 7 never apply
 abbrev pub NeverShort : Meaning → Type 0
 NeverShort (says x m) = NeverShort m
-NeverShort (refusedAfter number taken) = (number ≢ 4) × (number ≢ 7)
+NeverShort (refusedAfter why taken) = (why ≢ segmentTooLong) × (why ≢ reassemblyTooShort)
 NeverShort (holding h) = Unit {0}
 
 -- both lent lengths are in range, and so it is of this stream

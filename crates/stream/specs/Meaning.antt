@@ -6,6 +6,7 @@ use lib.Dec.{leb, eqb}
 use lib.ListN.{length, take}
 use Rattle.basis.specs.Front.{Front, incomplete, refuses, whole, ifWhole}
 use Rattle.basis.specs.Machine.{dated, Story, says, refusedAfter, holding}
+use Rattle.refusal.specs.Refusal.{Refusal, segmentTooLong, unexpectedSelfContained, reassemblyTooShort}
 use Rattle.types.specs.Read.{Place, place}
 use Rattle.segment.specs.Header.{Form, Header, headerLength}
 use Rattle.segment.specs.Segment.{Segment, segmentLength, headerAt, payloadAt}
@@ -36,27 +37,27 @@ pub record Held : Type 0 where
 abbrev pub held : List ℕ → List ℕ → Held
 held segment pending = record { segment = segment; pending = pending }
 
--- The answers in order, each with the number of bytes of the stream after which it is due, and then the end: a refusal's number and how many bytes were taken up to it, or what is held.
+-- The answers in order, each with the number of bytes of the stream after which it is due, and then the end: a refusal and how many bytes were taken up to it, or what is held.
 abbrev pub Meaning : Type 0
-Meaning = Story Said ℕ Held
+Meaning = Story Said Refusal Held
 
 -- ---- a segment, by its first bytes
 
 -- 6.5: 4 where it is longer than its buffer
-abbrev pub behindHeader : Lent → List ℕ → Header → Front Segment
-behindHeader z s h = cond (leb (segmentLength (z .form) (h .payload)) (z .segment)) (payloadAt (z .form) s h) (refuses 4)
+abbrev pub behindHeader : Lent → List ℕ → Header → Front Refusal Segment
+behindHeader z s h = cond (leb (segmentLength (z .form) (h .payload)) (z .segment)) (payloadAt (z .form) s h) (refuses segmentTooLong)
 
 -- 2, 3 and 4 once its header is there, 5 once all of it is
-unfoldable pub segmentIn : Lent → List ℕ → Front Segment
+unfoldable pub segmentIn : Lent → List ℕ → Front Refusal Segment
 segmentIn z s = ifWhole (headerAt (z .form) s) (behindHeader z s)
 
 -- ---- envelopes
 
 -- by what stands at the front of s, which stands in this buffer from `at` on: nothing whole, and the rest of the stream goes on with these bytes; a refusal; or an envelope, with so many bytes
 -- more to it than its first
-abbrev pub byFront : Front Envelope → ℕ → Buffer → ℕ → List ℕ → (List ℕ → Meaning) → (ℕ → Meaning) → Meaning
+abbrev pub byFront : Front Refusal Envelope → ℕ → Buffer → ℕ → List ℕ → (List ℕ → Meaning) → (ℕ → Meaning) → Meaning
 byFront incomplete taken buffer at s goes-on behind = goes-on s
-byFront (refuses number) taken buffer at s goes-on behind = refusedAfter number taken
+byFront (refuses why) taken buffer at s goes-on behind = refusedAfter why taken
 byFront (whole e) taken buffer at s goes-on behind = says (dated taken (envelopeOf buffer (place at (e .size)) (take (e .size) s) e)) (behind (pred (e .size)))
 
 -- 6.7: the envelopes of some bytes one after the other, once the first `skip` bytes are passed over; all are due after as many bytes of the stream
@@ -77,16 +78,16 @@ abbrev pub bySegment : Lent → Bool → List ℕ → List ℕ → ℕ → (List
 bySegment z true payload pending taken goes-on =
     cond (eqb (length pending) 0)
     (envelopesIn taken segmentBuffer (headerLength (z .form)) 0 payload (λ unread. dropping taken unread (goes-on pending)))
-    (refusedAfter 6 taken)
+    (refusedAfter unexpectedSelfContained taken)
 bySegment z false payload pending taken goes-on =
     cond (leb (length pending + length payload) (z .reassembly))
     (envelopesIn taken reassemblyBuffer 0 0 (pending ++ payload) goes-on)
-    (refusedAfter 7 taken)
+    (refusedAfter reassemblyTooShort taken)
 
 -- by what the first bytes of a segment are; the rest goes on with what is pending, and with the first bytes of the segment at hand
-abbrev pub judged : Lent → Front Segment → List ℕ → List ℕ → ℕ → (List ℕ → List ℕ → Meaning) → Meaning
+abbrev pub judged : Lent → Front Refusal Segment → List ℕ → List ℕ → ℕ → (List ℕ → List ℕ → Meaning) → Meaning
 judged z incomplete pending s taken goes-on = goes-on pending s
-judged z (refuses number) pending s taken goes-on = refusedAfter number taken
+judged z (refuses why) pending s taken goes-on = refusedAfter why taken
 judged z (whole g) pending s taken goes-on = bySegment z (g .self) (g .payload) pending taken (λ unread. goes-on unread [])
 
 -- with so many bytes taken, some pending and some of a segment at hand: what the bytes to come mean

@@ -6,6 +6,7 @@ use mathlib.Core.List.{List, [], _∷_}
 use lib.IntN.{pos, negsuc}
 use lib.ListN.{drop}
 use Rattle.basis.specs.Machine.{Step, says, refusedAfter, holding}
+use Rattle.refusal.specs.Refusal.{Refusal}
 use Rattle.types.specs.Read.{Place, place, strings}
 use Rattle.frame.specs.Envelope.{Envelope}
 use Rattle.frame_decoder.specs.Reader.{Reader, Buffer, envelopeAt, more, refused}
@@ -21,19 +22,19 @@ abbrev pub Keeps : Reads → Type 0
 Keeps R = (r : Reader) (segment reassembly piece : List ℕ) → R r segment reassembly piece ≡ call r segment reassembly piece
 
 -- as a machine, whose caller adds up the bytes that it says it took
-abbrev pub machineOf : Reads → State → List ℕ → Step State Said ℕ
+abbrev pub machineOf : Reads → State → List ℕ → Step State Said Refusal
 machineOf R s piece = stepOf (R (s .reader) (s .segment) (s .reassembly) piece)
 
 -- after how many bytes the answers come, and a refusal
 abbrev pub datesOf : Meaning → List ℕ
 datesOf (says x m) = x .after ∷ datesOf m
-datesOf (refusedAfter number taken) = taken ∷ []
+datesOf (refusedAfter why taken) = taken ∷ []
 datesOf (holding h) = []
 
 -- ---- wrong ones
 
 abbrev pub RefusesEverything : Reads → Type 0
-RefusesEverything R = (r : Reader) (segment reassembly piece : List ℕ) → (number : ℕ) × (R r segment reassembly piece .answer ≡ refused number)
+RefusesEverything R = (r : Reader) (segment reassembly piece : List ℕ) → (why : Refusal) × (R r segment reassembly piece .answer ≡ refused why)
 
 abbrev pub NamesOneEnvelope : Reads → Type 0
 NamesOneEnvelope R = (e : Envelope) × ((r : Reader) (segment reassembly piece : List ℕ) → (buffer : Buffer) × (at : Place) × (R r segment reassembly piece .answer ≡ envelopeAt buffer at e))

@@ -31,7 +31,7 @@ Counts form room pending (inHeader n) = n ≤ headerLength form
 Counts form room pending (inRest n len self) = (len ≤ maxPayload) × (segmentLength form len ≤ room) × (n ≤ segmentLength form len)
 Counts form room pending (inSegment len at) = (len ≤ maxPayload) × (segmentLength form len ≤ room) × (at ≤ len)
 Counts form room pending (inReassembly at) = at ≤ pending
-Counts form room pending (stopped number) = Unit
+Counts form room pending (stopped why) = Unit
 
 -- a reader over buffers of a and b bytes
 pub record Admitted (r : Reader) (a b : ℕ) : Type 0 where
@@ -47,7 +47,7 @@ wanted form (inHeader n) = headerLength form - n
 wanted form (inRest n len self) = segmentLength form len - n
 wanted form (inSegment len at) = 0
 wanted form (inReassembly at) = 0
-wanted form (stopped number) = 0
+wanted form (stopped why) = 0
 
 -- what is still to come has its place in a segment buffer of so many bytes
 abbrev pub Roomy : Form → ℕ → Phase → Type 0
@@ -55,7 +55,7 @@ Roomy form room (inHeader n) = (n ≤ headerLength form) × (headerLength form �
 Roomy form room (inRest n len self) = (n ≤ segmentLength form len) × (segmentLength form len ≤ room)
 Roomy form room (inSegment len at) = Unit
 Roomy form room (inReassembly at) = Unit
-Roomy form room (stopped number) = Unit
+Roomy form room (stopped why) = Unit
 
 -- what filling did: as many bytes as were wanted and there, each at its place
 pub record FilledIs (r : Filled) (m : Reader) (segment left bytes : List ℕ) : Type 0 where

@@ -6,6 +6,7 @@ use mathlib.Core.List.{List, [], _∷_, _++_}
 use lib.ListN.{length, take, drop}
 use Rattle.basis.specs.Front.{whole}
 use Rattle.basis.specs.Machine.{Dated, refusedAfter, holding, Close, usedUp, refusedWith, Uses}
+use Rattle.refusal.specs.Refusal.{Refusal}
 use Rattle.types.specs.Number.{part}
 use Rattle.segment.specs.Header.{Form, header, headerLength}
 use Rattle.segment.specs.Segment.{headerAt}
@@ -32,7 +33,7 @@ restAt z pending (inSegment len at) seg re taken stream =
     envelopesIn taken segmentBuffer (headerLength (z .form) + at) 0 (part seg (headerLength (z .form) + at) (len - at))
     (λ unread. dropping taken unread (meaningFrom z taken (take pending re) [] stream))
 restAt z pending (inReassembly at) seg re taken stream = envelopesIn taken reassemblyBuffer at 0 (part re at (pending - at)) (λ unread. meaningFrom z taken unread [] stream)
-restAt z pending (stopped number) seg re taken stream = refusedAfter number taken
+restAt z pending (stopped why) seg re taken stream = refusedAfter why taken
 
 abbrev pub rest : State → ℕ → List ℕ → Meaning
 rest s taken stream = restAt (lentOf (s .reader)) (s .reader .pending) (s .reader .phase) (s .segment) (s .reassembly) taken stream
@@ -45,7 +46,7 @@ Agrees form (inHeader n) seg = Unit
 Agrees form (inRest n len self) seg = (headerLength form ≤ n) × (headerAt form (take n seg) ≡ whole (header len 0 self))
 Agrees form (inSegment len at) seg = Unit
 Agrees form (inReassembly at) seg = Unit
-Agrees form (stopped number) seg = Unit
+Agrees form (stopped why) seg = Unit
 
 abbrev pub Untouched : State → Type 0
 Untouched s = Agrees (s .reader .form) (s .reader .phase) (s .segment)
@@ -78,7 +79,7 @@ pub record Going (stream : List ℕ) (w : Way) : Type 0 where
   pub within : w .taken ≤ length stream
 
 -- all of it is given as one piece
-abbrev pub Gives : List ℕ → Way → List (Dated Said) → Close ℕ → ℕ → State → Type 0
+abbrev pub Gives : List ℕ → Way → List (Dated Said) → Close Refusal → ℕ → State → Type 0
 Gives stream w = Uses reads (w .at) (w .taken) (drop (w .taken) stream)
 
 -- answers are written down one after the other
@@ -90,16 +91,16 @@ notedAll (x ∷ xs) t = notedAll xs (noted (bytesOf (x .what)) (markOf (x .what)
 pub record Onward (stream : List ℕ) (w v : Way) : Type 0 where
   pub handed : List (Dated Said)
   pub notes : v .tape ≡ notedAll handed (w .tape)
-  pub gives : (xs : List (Dated Said)) (c : Close ℕ) (end : ℕ) (t : State) → Gives stream v xs c end t → Gives stream w (handed ++ xs) c end t
+  pub gives : (xs : List (Dated Said)) (c : Close Refusal) (end : ℕ) (t : State) → Gives stream v xs c end t → Gives stream w (handed ++ xs) c end t
 
-abbrev pub endingOf : Close ℕ → ℕ → State → Ending
+abbrev pub endingOf : Close Refusal → ℕ → State → Ending
 endingOf usedUp end s = endOf (holding (holds s))
-endingOf (refusedWith number) end s = refusedEnd number end
+endingOf (refusedWith why) end s = refusedEnd why end
 
 -- it has come to its end with this written down, this end, and this in the buffers
 pub record Over (stream : List ℕ) (w : Way) (t : Tape) (e : Ending) (S R : List ℕ) : Type 0 where
   pub handed : List (Dated Said)
-  pub close : Close ℕ
+  pub close : Close Refusal
   pub taken : ℕ
   pub reader : Reader
   pub gives : Gives stream w handed close taken (state reader S R)
@@ -116,4 +117,4 @@ filledOf (inHeader n) = n
 filledOf (inRest n len self) = n
 filledOf (inSegment len at) = 0
 filledOf (inReassembly at) = 0
-filledOf (stopped number) = 0
+filledOf (stopped why) = 0

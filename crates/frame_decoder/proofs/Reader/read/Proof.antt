@@ -2,6 +2,7 @@
 use mathlib.Core.Path.{sym, ap, _∙_}
 use mathlib.Core.Bool.{Bool, cond}
 use lib.ListN.{length}
+use Rattle.refusal.specs.Refusal.{inadmissible}
 use Rattle.frame_decoder.specs.Reader.{refused}
 use Rattle.frame_decoder.specs.Call.{outcome, work, call}
 use Rattle.frame_decoder.specs.Paper.{paperReader, paperStep}
@@ -31,7 +32,7 @@ read-spec =
     let seg = a .segment .now in
     let re = a .reassembly .now in
     let piece = a .piece .now in
-    c .before .before .before .before .work .ensures ∙ sym (ap (λ (t : Bool). cond t (work 0 r seg re piece) (outcome (refused 1) 0 r seg re)) (sym (c .before .before .before .before .before .before .before .before .is-admissible .ensures) ∙ c .before .before .before .before .before .before .before .if1 .taken)))
+    c .before .before .before .before .work .ensures ∙ sym (ap (λ (t : Bool). cond t (work 0 r seg re piece) (outcome (refused inadmissible) 0 r seg re)) (sym (c .before .before .before .before .before .before .before .before .is-admissible .ensures) ∙ c .before .before .before .before .before .before .before .if1 .taken)))
     (λ c κs. search needs)
     (λ c.
     let a = c .before .before .before .before .before .before .args in
@@ -39,4 +40,4 @@ read-spec =
     let seg = a .segment .now in
     let re = a .reassembly .now in
     let piece = a .piece .now in
-    ap (λ (s : Step). paperStep s seg re) (c .step .ensures) ∙ sym (ap (λ (t : Bool). cond t (work 0 r seg re piece) (outcome (refused 1) 0 r seg re)) (sym (c .before .before .is-admissible .ensures) ∙ c .before .if1 .left))))
+    ap (λ (s : Step). paperStep s seg re) (c .step .ensures) ∙ sym (ap (λ (t : Bool). cond t (work 0 r seg re piece) (outcome (refused inadmissible) 0 r seg re)) (sym (c .before .before .is-admissible .ensures) ∙ c .before .if1 .left))))

@@ -6,6 +6,7 @@ use mathlib.Core.List.{List}
 use native.Mathlib.Omega.{arith}
 use borrow.Author.Tests.{le-leb, lt-leb}
 use lib.ListN.{length}
+use Rattle.refusal.specs.Refusal.{reassemblyTooShort}
 use Rattle.types.specs.Write.{put}
 use Rattle.frame_decoder.specs.Reader.{Reader, inReassembly, keeping}
 use Rattle.frame_decoder.specs.Settle.{Due, settled, refusing, readPending, readJoined}
@@ -38,7 +39,7 @@ append-spec =
     let p = a .payload .now in
     c .before .before .from-pending .ensures
     ∙ ap₂ (λ (x : Reader) (l : List ℕ). readPending x l 0) (c .before .before .before .before .kept .ensures) (tail-put re p (a .m .pending) (c .before .before .before .before .before .before .before .put-bytes .ensures))
-    ∙ sym (ap (λ (t : Bool). cond t (readPending (keeping r (a .m .pending + length p) (inReassembly 0)) (put re (a .m .pending) p) 0) (settled (refusing 7 r) re)) (le-leb (a .m .pending + length p) (length re) (omega (arith, c .before .before .before .before .before .before .before .before .before .if1 .taken, c .before .before .before .before .before .before .before .before .before .before .before .before .pre)))))
+    ∙ sym (ap (λ (t : Bool). cond t (readPending (keeping r (a .m .pending + length p) (inReassembly 0)) (put re (a .m .pending) p) 0) (settled (refusing reassemblyTooShort r) re)) (le-leb (a .m .pending + length p) (length re) (omega (arith, c .before .before .before .before .before .before .before .before .before .if1 .taken, c .before .before .before .before .before .before .before .before .before .before .before .before .pre)))))
     (λ c κs. search needs)
     (λ c.
     let a = c .before .before .before .before .args in
@@ -46,4 +47,4 @@ append-spec =
     let re = a .reassembly .now in
     let p = a .payload .now in
     ap (λ (d : Due). settled d re) (c .refuse .ensures)
-    ∙ sym (ap (λ (t : Bool). cond t (readPending (keeping r (a .m .pending + length p) (inReassembly 0)) (put re (a .m .pending) p) 0) (settled (refusing 7 r) re)) (lt-leb (a .m .pending + length p) (length re) (omega (arith, c .before .if1 .left, c .before .before .before .before .pre))))))
+    ∙ sym (ap (λ (t : Bool). cond t (readPending (keeping r (a .m .pending + length p) (inReassembly 0)) (put re (a .m .pending) p) 0) (settled (refusing reassemblyTooShort r) re)) (lt-leb (a .m .pending + length p) (length re) (omega (arith, c .before .if1 .left, c .before .before .before .before .pre))))))

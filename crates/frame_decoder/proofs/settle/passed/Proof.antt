@@ -4,6 +4,7 @@ use mathlib.Core.Path.{sym, ap, _∙_}
 use mathlib.Core.Bool.{Bool, cond}
 use native.Mathlib.Omega.{arith}
 use borrow.Author.Tests.{le-leb, lt-leb}
+use Rattle.refusal.specs.Refusal.{segmentTooLong}
 use Rattle.segment.specs.Segment.{segmentLength}
 use Rattle.segment.specs.Paper.{paperForm}
 use Rattle.segment.proofs.HeaderLaid.{head-most}
@@ -28,10 +29,10 @@ passed-spec =
     let a = c .before .before .before .before .args in
     let r = paperReader (a .m) in
     ap waits (c .in-phase .ensures)
-    ∙ sym (ap (λ (t : Bool). cond t (waits (inPhase r (inRest (a .filled) (a .header .payload) (a .header .«self_contained»)))) (refusing 4 r)) (le-leb (segmentLength (paperForm (a .m .form)) (a .header .payload)) (a .room) (omega (arith, c .before .before .header-len .ensures, c .before .if1 .taken)))))
+    ∙ sym (ap (λ (t : Bool). cond t (waits (inPhase r (inRest (a .filled) (a .header .payload) (a .header .«self_contained»)))) (refusing segmentTooLong r)) (le-leb (segmentLength (paperForm (a .m .form)) (a .header .payload)) (a .room) (omega (arith, c .before .before .header-len .ensures, c .before .if1 .taken)))))
     (λ c κs. search needs)
     (λ c.
     let a = c .before .before .before .before .args in
     let r = paperReader (a .m) in
     c .refuse .ensures
-    ∙ sym (ap (λ (t : Bool). cond t (waits (inPhase r (inRest (a .filled) (a .header .payload) (a .header .«self_contained»)))) (refusing 4 r)) (lt-leb (segmentLength (paperForm (a .m .form)) (a .header .payload)) (a .room) (omega (arith, c .before .before .header-len .ensures, c .before .if1 .left))))))
+    ∙ sym (ap (λ (t : Bool). cond t (waits (inPhase r (inRest (a .filled) (a .header .payload) (a .header .«self_contained»)))) (refusing segmentTooLong r)) (lt-leb (segmentLength (paperForm (a .m .form)) (a .header .payload)) (a .room) (omega (arith, c .before .before .header-len .ensures, c .before .if1 .left))))))

@@ -9,6 +9,7 @@ use lib.Dec.{eqb}
 use lib.ListN.{length}
 use Rattle.basis.specs.Front.{whole}
 use Rattle.crc.specs.Check32.{crc32}
+use Rattle.refusal.specs.Refusal.{unexpectedSelfContained}
 use Rattle.types.specs.Number.{part}
 use Rattle.types.proofs.BigEndian.{part-of}
 use Rattle.segment.specs.LittleEndian.{le}
@@ -50,7 +51,7 @@ segment-due-spec =
     let re = a .reassembly .now in
     let h = c .before .before .before .before .before .before .header-len .ensures in
     let good = segment-good f seg (a .filled) (a .len) (a .self-contained) (pre .0) (pre .1) (omega (arith, h, c .before .before .before .before .before .if1 .left)) (sym (ap (λ (k : ℕ). eqb (le (part seg (k + a .len) trailerLength)) (crc32 (part seg k (a .len)))) h) ∙ sym (c .before .before .before .before .payload-holds .ensures) ∙ c .before .before .before .if2 .taken) in
-    ap (λ (d : Due). settled d re) (c .from-segment .ensures ∙ sym (ap (λ (t : Bool). cond t (readSegment r seg (a .len) 0) (refusing 6 r)) (eq-eqb (a .m .pending) 0 (c .before .if4 .taken))))
+    ap (λ (d : Due). settled d re) (c .from-segment .ensures ∙ sym (ap (λ (t : Bool). cond t (readSegment r seg (a .len) 0) (refusing unexpectedSelfContained r)) (eq-eqb (a .m .pending) 0 (c .before .if4 .taken))))
     ∙ sym (ap (segmentDue r seg re (a .len)) good ∙ ap (λ (t : Bool). received r seg re (a .len) t (part seg (headerLength f) (a .len))) (c .before .before .if3 .taken)))
     (λ c κs. search needs)
     (λ c.
@@ -62,7 +63,7 @@ segment-due-spec =
     let re = a .reassembly .now in
     let h = c .before .before .before .before .before .before .header-len .ensures in
     let good = segment-good f seg (a .filled) (a .len) (a .self-contained) (pre .0) (pre .1) (omega (arith, h, c .before .before .before .before .before .if1 .left)) (sym (ap (λ (k : ℕ). eqb (le (part seg (k + a .len) trailerLength)) (crc32 (part seg k (a .len)))) h) ∙ sym (c .before .before .before .before .payload-holds .ensures) ∙ c .before .before .before .if2 .taken) in
-    ap (λ (d : Due). settled d re) (c .refuse .ensures ∙ sym (ap (λ (t : Bool). cond t (readSegment r seg (a .len) 0) (refusing 6 r)) (ne-eqb (a .m .pending) 0 (c .before .if4 .left))))
+    ap (λ (d : Due). settled d re) (c .refuse .ensures ∙ sym (ap (λ (t : Bool). cond t (readSegment r seg (a .len) 0) (refusing unexpectedSelfContained r)) (ne-eqb (a .m .pending) 0 (c .before .if4 .left))))
     ∙ sym (ap (segmentDue r seg re (a .len)) good ∙ ap (λ (t : Bool). received r seg re (a .len) t (part seg (headerLength f) (a .len))) (c .before .before .if3 .taken)))
     (λ c. search needs)
     (λ c. search needs)
