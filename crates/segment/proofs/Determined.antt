@@ -2,18 +2,19 @@
 -- Assumes nothing.
 use mathlib.Core.Path.{sym, _∙_}
 use Rattle.basis.specs.Determined.{Determined, DeterminedAs}
-use Rattle.basis.proofs.Determined.{by-equation, by-sight, by-meaning}
+use Rattle.basis.proofs.Determined.{by-equation, by-sight, by-meaning, told-apart}
 use Rattle.types.specs.Write.{put}
 use Rattle.segment.specs.LittleEndian.{leDigits}
 use Rattle.segment.specs.Header.{numberLength, headerLength, fieldsOf, numberOf, headerBytes}
-use Rattle.segment.specs.Segment.{headerAt}
+use Rattle.segment.specs.Segment.{headerAt, behind}
 use Rattle.segment.specs.Paper.{paperForm, paperHeader}
-use Rattle.segment.proofs.Told.{header-told, read-header-told}
+use Rattle.segment.proofs.Told.{header-told, read-header-told, read-payload-told}
 use Rattle.segment.proofs.number_len.Reads as number-lengths
 use Rattle.segment.proofs.header_len.Reads as header-lengths
 use Rattle.segment.proofs.fields.Reads as fields
 use Rattle.segment.proofs.number.Reads as numbers
 use Rattle.segment.proofs.read_header.Reads as reads
+use Rattle.segment.proofs.read_payload.Reads as reads-payload
 use Rattle.segment.proofs.inner.number.Reads as inner-numbers
 use Rattle.segment.proofs.inner.put_number.Reads as puts-number
 use Rattle.segment.proofs.inner.put_header.Reads as puts-header
@@ -32,6 +33,10 @@ number-determined = by-equation (λ κs a. numberOf (paperForm (a .0)) (paperHea
 
 pub read-header-determined : Determined reads.Post
 read-header-determined = by-meaning read-header-told (λ κs a. headerAt (paperForm (a .0)) (a .1 .0 .now))
+
+pub read-payload-determined : Determined reads-payload.Post
+read-payload-determined =
+    record { same = λ κs a r s e f p q. told-apart (read-payload-told (behind (paperForm (a .0)) (a .1 .0 .now) (paperHeader (a .1 .1 .0)))) r s (p ∙ sym q) }
 
 -- ---- the module `inner`
 

@@ -5,10 +5,12 @@ use Rattle.basis.proofs.Determined.{Tells}
 use Rattle.refusal.proofs.Numbers.{caseOf, caseOf-paper}
 use Rattle.refusal.specs.Refusal.{Refusal}
 use Rattle.segment.specs.Header.{Form, short, long, Header}
-use Rattle.segment.specs.Paper.{paperForm, paperHeader, paperReadHeader}
+use Rattle.segment.specs.Segment.{Segment}
+use Rattle.segment.specs.Paper.{paperForm, paperHeader, paperReadHeader, paperReadPayload}
 use Rattle.segment.specs.declared.Form as code-form
 use Rattle.segment.specs.declared.Header as code-header
 use Rattle.segment.specs.declared.ReadHeader.{ReadHeader}
+use Rattle.segment.specs.declared.ReadPayload.{ReadPayload}
 
 formFrom : Form → code-form.Form
 formFrom short = code-form.Form.Short
@@ -45,3 +47,17 @@ read-is (ReadHeader.Refused e) = ap ReadHeader.Refused (caseOf-paper e)
 
 pub read-header-told : Tells paperReadHeader
 read-header-told = record { back = read-of; is = read-is }
+
+payload-of : Front Refusal Segment → ReadPayload
+payload-of incomplete = ReadPayload.Incomplete
+payload-of (refuses why) = ReadPayload.Refused (caseOf why)
+payload-of (whole s) = ReadPayload.Whole
+
+payload-is : (s : Segment) (r : ReadPayload) → payload-of (paperReadPayload r s) ≡ r
+unfolding payload-of
+payload-is s ReadPayload.Incomplete = refl
+payload-is s ReadPayload.Whole = refl
+payload-is s (ReadPayload.Refused e) = ap ReadPayload.Refused (caseOf-paper e)
+
+pub read-payload-told : (s : Segment) → Tells (λ r. paperReadPayload r s)
+read-payload-told s = record { back = payload-of; is = payload-is s }

@@ -55,12 +55,16 @@ segment self payload = record { self = self; payload = payload }
 abbrev pub segmentLength : Form → ℕ → ℕ
 segmentLength form payload = headerLength form + payload + trailerLength
 
--- behind a header: the payload, and its check
+-- the segment that stands behind a header
+abbrev pub behind : Form → List ℕ → Header → Segment
+behind form s h = segment (h .self) (part s (headerLength form) (h .payload))
+
+-- it is there, and its check is that of its payload
 unfoldable pub payloadAt : Form → List ℕ → Header → Front Refusal Segment
 payloadAt form s h =
     cond (ltb (length s) (segmentLength form (h .payload))) incomplete
-    (cond (eqb (le (part s (headerLength form + h .payload) trailerLength)) (crc32 (part s (headerLength form) (h .payload))))
-    (whole (segment (h .self) (part s (headerLength form) (h .payload))))
+    (cond (eqb (le (part s (headerLength form + h .payload) trailerLength)) (crc32 (behind form s h .payload)))
+    (whole (behind form s h))
     (refuses payloadCheckDiffers))
 
 unfoldable pub segmentAt : Form → List ℕ → Front Refusal Segment
