@@ -5,14 +5,18 @@ use Rattle.basis.specs.Determined.{Determined, DeterminedAs, DeterminedLent}
 use Rattle.basis.proofs.Determined.{by-equation, by-sight, by-meaning}
 use Rattle.types.specs.Paper.{placeOf}
 use Rattle.segment.specs.Paper.{paperForm}
-use Rattle.frame_decoder.specs.Reader.{fresh, held, bytesAt}
+use Rattle.frame_decoder.specs.Reader.{fresh, held, bytesAt, inRange}
 use Rattle.frame_decoder.specs.Paper.{paperReader, paperBuffer}
 use Rattle.frame_decoder.proofs.Told.{reader-told, Lent, lent-apart, Seen, step-apart}
+use Rattle.frame_decoder.proofs.in_range.Reads as ranges
 use Rattle.frame_decoder.proofs.part.Reads as parts
 use Rattle.frame_decoder.proofs.Reader.new.Reads as news
 use Rattle.frame_decoder.proofs.Reader.held.Reads as holds
 use Rattle.frame_decoder.proofs.Reader.read.Reads as reads
 use Rattle.frame_decoder.proofs.Reader.consume as lents
+
+pub in-range-determined : Determined ranges.Post
+in-range-determined = by-equation (λ κs a. inRange (a .0) (a .1 .0))
 
 pub part-determined : DeterminedAs (λ κs r e. r .now) parts.Post
 part-determined = by-sight (λ κs r e. r .now) (λ κs a. bytesAt (paperBuffer (a .0)) (a .1 .0 .now) (a .1 .1 .0 .now) (placeOf (a .1 .1 .1 .0)))

@@ -1,5 +1,6 @@
 -- Laws that belong to no one function.
-pub mod Admits
+pub mod Steps
+pub mod Phases
 pub mod Moved
 pub mod Parts
 pub mod Tags

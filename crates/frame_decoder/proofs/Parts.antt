@@ -1,23 +1,20 @@
 -- Parts of a buffer as the code takes them and as the definitions do. Assumes nothing.
 use Prim.Native.Nat.{ℕ, _+_, _-_, _≤_, _<_}
-use mathlib.Core.Path.{_≡_, refl, sym, ap, ap₂, _∙_}
-use mathlib.Core.Bool.{Bool, true, false}
+use mathlib.Core.Path.{_≡_, refl, sym, ap, _∙_}
 use mathlib.Core.List.{List, [], _++_, append-assoc, append-nil}
 use native.Mathlib.Nat.{le-of-eq, le-refl, zero-add}
 use native.Mathlib.Omega.{arith}
-use lib.Dec.{eqb}
 use lib.ListN.{length, take, drop, length-drop, drop-of-length-le}
 use lib.Seq.{length-take-le, take-all, take-take, drop-drop}
-use Rattle.basis.specs.Front.{incomplete, refuses, whole}
-use Rattle.crc.specs.Check32.{crc32}
-use Rattle.refusal.specs.Refusal.{payloadCheckDiffers}
+use Rattle.basis.specs.Front.{Front, whole}
+use Rattle.basis.proofs.Fronts.{not-whole, refused-not-whole}
+use Rattle.refusal.specs.Refusal.{Refusal}
 use Rattle.types.specs.Number.{part}
 use Rattle.types.specs.Write.{put}
 use Rattle.types.proofs.Steady.{part-same}
-use Rattle.segment.specs.LittleEndian.{le}
-use Rattle.segment.specs.Header.{Form, header, headerLength}
-use Rattle.segment.specs.Segment.{trailerLength, segment, segmentLength, payloadAt}
-use Rattle.segment.proofs.Cases.{payload-cut, payload-differs, payload-good, payload-is}
+use Rattle.segment.specs.Header.{Form, Header, headerLength}
+use Rattle.segment.specs.Segment.{Segment, segmentLength, behind, payloadAt}
+use Rattle.segment.proofs.Cases.{Payloads, payload-cut, payload-differs, payload-good, payload-case}
 
 -- what is unread of a payload that begins at h
 pub unread-part : (s : List ℕ) {k h : ℕ} (len at : ℕ) → k ≡ h → take (k + len - (k + at)) (drop (k + at) s) ≡ part s (h + at) (len - at)
@@ -44,27 +41,16 @@ pub part-taken : (s : List ℕ) (n at k : ℕ) → at + k ≤ n → n ≤ length
 part-taken s n at k h room =
     part-same s (take n s) at k (omega arith) (omega (arith, length-take-le n s room)) (take-take (at + k) n s h)
 
--- ---- a segment of which n bytes stand at the front of a buffer
+-- ---- a segment that is whole in the first n bytes of a buffer
 
-module _ (f : Form) (s : List ℕ) (n len : ℕ) (self : Bool) (room : segmentLength f len ≤ length s) where
-  -- its check, as it stands in the buffer
-  abbrev pub checks : Bool
-  checks = eqb (le (part s (headerLength f + len) trailerLength)) (crc32 (part s (headerLength f) len))
+whole-there : (f : Form) (s : List ℕ) (h : Header) {g : Segment} → payloadAt f s h ≡ whole g → segmentLength f (h .payload) ≤ length s
+whole-there f s h {g} e = go (payload-case f s h) e
+  where
+    go : {r : Front Refusal Segment} → Payloads f s h r → r ≡ whole g → segmentLength f (h .payload) ≤ length s
+    go (payload-cut l) q = absurd (not-whole q)
+    go (payload-differs l c) q = absurd (refused-not-whole q)
+    go (payload-good l c) q = l
 
-  pub segment-cut : n < segmentLength f len → payloadAt f (take n s) (header len 0 self) ≡ incomplete
-  segment-cut h = payload-is f (take n s) (header len 0 self) (payload-cut (omega (arith, length-take-le n s (omega arith))))
-
-  module _ (most : n ≤ segmentLength f len) (there : segmentLength f len ≤ n) where
-    same-check : (t : Bool) → checks ≡ t → eqb (le (part (take n s) (headerLength f + len) trailerLength)) (crc32 (part (take n s) (headerLength f) len)) ≡ t
-    same-check t e =
-        ap₂ (λ (x y : List ℕ). eqb (le x) (crc32 y)) (part-taken s n (headerLength f + len) trailerLength there (omega arith)) (part-taken s n (headerLength f) len (omega arith) (omega arith))
-        ∙ e
-
-    pub segment-differs : checks ≡ false → payloadAt f (take n s) (header len 0 self) ≡ refuses payloadCheckDiffers
-    segment-differs e =
-        payload-is f (take n s) (header len 0 self) (payload-differs (omega (arith, length-take-le n s (omega arith))) (same-check false e))
-
-    pub segment-good : checks ≡ true → payloadAt f (take n s) (header len 0 self) ≡ whole (segment self (part s (headerLength f) len))
-    segment-good e =
-        payload-is f (take n s) (header len 0 self) (payload-good (omega (arith, length-take-le n s (omega arith))) (same-check true e))
-        ∙ ap (λ (p : List ℕ). whole (segment self p)) (part-taken s n (headerLength f) len (omega arith) (omega arith))
+-- its payload stands in the buffer
+pub whole-payload : (f : Form) (s : List ℕ) (n : ℕ) (h : Header) → n ≤ length s → payloadAt f (take n s) h ≡ whole (behind f (take n s) h) → part (take n s) (headerLength f) (h .payload) ≡ part s (headerLength f) (h .payload)
+whole-payload f s n h room e = part-taken s n (headerLength f) (h .payload) (omega (arith, whole-there f (take n s) h e, length-take-le n s room)) room

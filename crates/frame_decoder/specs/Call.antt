@@ -1,11 +1,11 @@
 -- One call of a reader over its two lent buffers and a piece of the stream: docs/RULES.md, 6.3, 6.4 and 6.13. Assumes nothing.
-use Prim.Native.Nat.{ℕ, suc, _+_}
+use Prim.Native.Nat.{ℕ, suc}
 use mathlib.Core.Bool.{cond}
 use mathlib.Core.List.{List, [], _∷_}
 use lib.ListN.{length}
 use Rattle.refusal.specs.Refusal.{inadmissible}
 use Rattle.types.specs.Write.{put}
-use Rattle.frame_decoder.specs.Reader.{Phase, inHeader, inRest, inSegment, inReassembly, stopped, Reader, inPhase, Answer, more, refused, admissible}
+use Rattle.frame_decoder.specs.Reader.{Reader, pushed, Answer, more, refused, countsOf, admissible}
 use Rattle.frame_decoder.specs.Settle.{Due, due, waits, Settled, settle}
 
 -- what a call answers, how many bytes it took, and the reader and the buffers that it leaves
@@ -20,26 +20,9 @@ abbrev pub outcome : Answer → ℕ → Reader → List ℕ → List ℕ → Out
 outcome answer taken r segment reassembly =
     record { answer = answer; taken = taken; reader = r; segment = segment; reassembly = reassembly }
 
--- ---- bytes that are taken
-
--- 6.4: they stand behind those taken before, and all other bytes of the segment buffer stay
-unfoldable pub stored : Phase → List ℕ → List ℕ → List ℕ
-stored (inHeader n) segment bytes = put segment n bytes
-stored (inRest n len self) segment bytes = put segment n bytes
-stored (inSegment len at) segment bytes = segment
-stored (inReassembly at) segment bytes = segment
-stored (stopped why) segment bytes = segment
-
--- so many more are there; nothing is judged
-unfoldable pub grown : ℕ → Phase → Phase
-grown k (inHeader n) = inHeader (n + k)
-grown k (inRest n len self) = inRest (n + k) len self
-grown k (inSegment len at) = inSegment len at
-grown k (inReassembly at) = inReassembly at
-grown k (stopped why) = stopped why
-
-abbrev pub pushed : ℕ → Reader → Reader
-pushed k r = inPhase r (grown k (r .phase))
+-- 6.4: bytes that are taken stand behind those taken before, and all other bytes of the segment buffer stay
+abbrev pub stored : Reader → List ℕ → List ℕ → List ℕ
+stored r segment bytes = put segment (countsOf r .there) bytes
 
 -- ---- a call
 
@@ -56,7 +39,7 @@ work taken r segment reassembly [] =
 work taken r segment reassembly (b ∷ piece) =
     let s : Settled = settle r segment reassembly in
     unlessDue taken segment (s .says) (s .reassembly)
-    (λ next. work (suc taken) (pushed 1 next) (stored (next .phase) segment (b ∷ [])) (s .reassembly) piece)
+    (λ next. work (suc taken) (pushed 1 next) (stored next segment (b ∷ [])) (s .reassembly) piece)
 
 -- 1 is tested first, and changes nothing
 unfoldable pub call : Reader → List ℕ → List ℕ → List ℕ → Outcome

@@ -12,7 +12,7 @@ use Rattle.types.specs.Write.{put}
 use Rattle.segment.specs.Header.{Header, header, headerLength}
 use Rattle.segment.specs.Segment.{Segment, segmentLength, headerAt, payloadAt}
 use Rattle.frame.specs.Envelope.{Envelope, envelope}
-use Rattle.frame_decoder.specs.Reader.{Phase, inHeader, inRest, inSegment, inReassembly, stopped, Reader, keeping, inPhase, segmentBuffer, reassemblyBuffer, Answer, envelopeAt, leftover, refused}
+use Rattle.frame_decoder.specs.Reader.{Phase, inHeader, inRest, inSegment, inReassembly, stopped, Reader, headerPassed, segmentFinished, handedOn, payloadRead, stoppedBy, segmentBuffer, reassemblyBuffer, Answer, envelopeAt, leftover, refused}
 
 -- an answer and the reader behind it; or a reader that waits for bytes
 pub data Due : Type 0 where
@@ -27,9 +27,8 @@ pub record Settled : Type 0 where
 abbrev pub settled : Due → List ℕ → Settled
 settled says reassembly = record { says = says; reassembly = reassembly }
 
--- 6.13: a refusal stops the reader
 abbrev pub refusing : Refusal → Reader → Due
-refusing why r = due (refused why) (inPhase r (stopped why))
+refusing why r = due (refused why) (stoppedBy r why)
 
 -- ---- 6.5: a header of which n bytes are there, and as what it is read; room is the segment buffer's
 
@@ -38,20 +37,20 @@ headerDue r n room incomplete = waits r
 headerDue r n room (refuses why) = refusing why r
 headerDue r n room (whole h) =
     cond (leb (segmentLength (r .form) (h .payload)) room)
-    (waits (inPhase r (inRest n (h .payload) (h .self))))
+    (waits (headerPassed r n h))
     (refusing segmentTooLong r)
 
 -- ---- 6.7: envelopes of a self-contained payload, where it stands in the segment buffer
 
 -- 6.8: n unread bytes are dropped
 unfoldable pub leftoverDue : Reader → ℕ → Due
-leftoverDue r n = cond (eqb n 0) (waits (inPhase r (inHeader 0))) (due (leftover n) (inPhase r (inHeader 0)))
+leftoverDue r n = cond (eqb n 0) (waits (payloadRead r (r .pending))) (due (leftover n) (payloadRead r (r .pending)))
 
 unfoldable pub fromSegment : Reader → ℕ → ℕ → Front Refusal Envelope → Due
 fromSegment r len at incomplete = leftoverDue r (len - at)
 fromSegment r len at (refuses why) = refusing why r
 fromSegment r len at (whole e) =
-    due (envelopeAt segmentBuffer (place (headerLength (r .form) + at) (e .size)) e) (inPhase r (inSegment len (at + e .size)))
+    due (envelopeAt segmentBuffer (place (headerLength (r .form) + at) (e .size)) e) (handedOn r (inSegment len at) (e .size))
 
 unfoldable pub readSegment : Reader → List ℕ → ℕ → ℕ → Due
 readSegment r segment len at = fromSegment r len at (envelope (part segment (headerLength (r .form) + at) (len - at)))
@@ -64,10 +63,10 @@ movedDown reassembly at n = put reassembly 0 (part reassembly at n)
 
 unfoldable pub fromPending : Reader → List ℕ → ℕ → Front Refusal Envelope → Settled
 fromPending r reassembly at incomplete =
-    settled (waits (keeping r (r .pending - at) (inHeader 0))) (movedDown reassembly at (r .pending - at))
+    settled (waits (payloadRead r (r .pending - at))) (movedDown reassembly at (r .pending - at))
 fromPending r reassembly at (refuses why) = settled (refusing why r) reassembly
 fromPending r reassembly at (whole e) =
-    settled (due (envelopeAt reassemblyBuffer (place at (e .size)) e) (inPhase r (inReassembly (at + e .size)))) reassembly
+    settled (due (envelopeAt reassemblyBuffer (place at (e .size)) e) (handedOn r (inReassembly at) (e .size))) reassembly
 
 unfoldable pub readPending : Reader → List ℕ → ℕ → Settled
 readPending r reassembly at = fromPending r reassembly at (envelope (part reassembly at (r .pending - at)))
@@ -76,13 +75,13 @@ readPending r reassembly at = fromPending r reassembly at (envelope (part reasse
 
 -- self-contained
 unfoldable pub readAlone : Reader → List ℕ → ℕ → Due
-readAlone r segment len = cond (eqb (r .pending) 0) (readSegment r segment len 0) (refusing unexpectedSelfContained r)
+readAlone r segment len = cond (eqb (r .pending) 0) (readSegment (segmentFinished r len true) segment len 0) (refusing unexpectedSelfContained r)
 
 -- not: its payload joins the pending bytes
 unfoldable pub readJoined : Reader → List ℕ → List ℕ → Settled
 readJoined r reassembly payload =
     cond (leb (r .pending + length payload) (length reassembly))
-    (readPending (keeping r (r .pending + length payload) (inReassembly 0)) (put reassembly (r .pending) payload) 0)
+    (readPending (segmentFinished r (length payload) false) (put reassembly (r .pending) payload) 0)
     (settled (refusing reassemblyTooShort r) reassembly)
 
 abbrev pub received : Reader → List ℕ → List ℕ → ℕ → Bool → List ℕ → Settled

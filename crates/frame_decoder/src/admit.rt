@@ -1,17 +1,14 @@
 // Refusal 1: the lengths that are lent, and the counts of a state.
 ghost use mathlib.Core.Path.{_≡_};
-ghost use mathlib.Core.Bool.{true, _&&_};
-ghost use lib.Dec.{leb};
-ghost use Rattle.segment.specs.Segment.{segmentLength};
+ghost use mathlib.Core.Bool.{true};
+ghost use Prim.Native.Nat.{_≤_};
+ghost use Rattle.segment.specs.Segment.{maxPayload};
 ghost use Rattle.segment.specs.Paper.{paperForm};
-ghost use Rattle.frame_decoder.specs.Reader.{payloadFits, countsFit, admissible, heldIn, inRest};
-ghost use Rattle.frame_decoder.specs.Paper.{paperPhase, paperReader};
-use crate::MAX_REASSEMBLY_LEN;
-use crate::MAX_SEGMENT_LEN;
-use crate::MIN_REASSEMBLY_LEN;
-use crate::MIN_SEGMENT_LEN;
+ghost use Rattle.frame_decoder.specs.Reader.{countsOf, payloadFits, countsLie, admissible, heldIn};
+ghost use Rattle.frame_decoder.specs.Paper.{paperReader};
 use crate::Phase;
 use crate::Reader;
+use crate::in_range;
 use segment::Form;
 use segment::MAX_PAYLOAD;
 use segment::TRAILER_LEN;
@@ -26,28 +23,39 @@ fn payload_fits(form: Form, room: usize, len: usize) -> bool
     (len <= MAX_PAYLOAD) & within
 }
 
-fn rest_fits(form: Form, room: usize, filled: usize, len: usize) -> bool
-    ensures { λ r. ⌜ r ≡ (payloadFits (paperForm form) room len && leb filled (segmentLength (paperForm form) len)) ⌝ }
+// How long a payload its header told of.
+fn payload_len(m: Reader) -> usize
+    ensures { λ r. ⌜ r ≡ countsOf (paperReader m) .payload ⌝ }
 {
-    if payload_fits(form, room, len) {
-        let end = header_len(form) + len + TRAILER_LEN;
-        return filled <= end;
+    let phase = m.phase;
+    match phase {
+        Phase::Header { filled: _ } => 0,
+        Phase::Rest {
+            filled: _,
+            len,
+            self_contained: _,
+        } => len,
+        Phase::InSegment { len, at: _ } => len,
+        Phase::InReassembly { at: _ } => 0,
+        Phase::Stopped(_) => 0,
     }
-    false
 }
 
-fn counts_fit(form: Form, room: usize, pending: usize, phase: Phase) -> bool
-    ensures { λ r. ⌜ r ≡ countsFit (paperForm form) room pending (paperPhase phase) ⌝ }
+fn counts_lie(m: Reader) -> bool
+    requires { ⌜ countsOf (paperReader m) .payload ≤ maxPayload ⌝ }
+    ensures { λ r. ⌜ r ≡ countsLie (countsOf (paperReader m)) ⌝ }
 {
+    let form = m.form;
+    let phase = m.phase;
     match phase {
         Phase::Header { filled } => filled <= header_len(form),
         Phase::Rest {
             filled,
             len,
             self_contained: _,
-        } => rest_fits(form, room, filled, len),
-        Phase::InSegment { len, at } => payload_fits(form, room, len) & (at <= len),
-        Phase::InReassembly { at } => at <= pending,
+        } => filled <= header_len(form) + len + TRAILER_LEN,
+        Phase::InSegment { len, at } => at <= len,
+        Phase::InReassembly { at } => at <= m.pending,
         Phase::Stopped(_) => true,
     }
 }
@@ -58,18 +66,17 @@ pub(crate) fn is_admissible(m: Reader, a: usize, b: usize) -> bool
 {
     let form = m.form;
     let pending = m.pending;
-    let phase = m.phase;
-    let counts = counts_fit(form, a, pending, phase);
-    let first = (MIN_SEGMENT_LEN <= a) & (a <= MAX_SEGMENT_LEN);
-    let second = (MIN_REASSEMBLY_LEN <= b) & (b <= MAX_REASSEMBLY_LEN);
-    let as_before = (a == m.segment_len) & (b == m.reassembly_len);
-    let lent = (first & second) & as_before;
-    lent & ((pending <= b) & counts)
+    if payload_fits(form, a, payload_len(m)) {
+        let counts = counts_lie(m);
+        let as_before = (a == m.segment_len) & (b == m.reassembly_len);
+        return (in_range(a, b) & as_before) & ((pending <= b) & counts);
+    }
+    false
 }
 
 pub(crate) fn held_in(m: Reader) -> usize
     requires { ⌜ admissible (paperReader m) (m .«segment_len») (m .«reassembly_len») ≡ true ⌝ }
-    ensures { λ r. ⌜ r ≡ heldIn (m .pending) (paperPhase (m .phase)) ⌝ }
+    ensures { λ r. ⌜ r ≡ heldIn (countsOf (paperReader m)) ⌝ }
 {
     let pending = m.pending;
     let phase = m.phase;

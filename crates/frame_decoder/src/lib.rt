@@ -3,7 +3,7 @@
 ghost use mathlib.Core.Path.{_≡_};
 ghost use Rattle.types.specs.Paper.{placeOf};
 ghost use Rattle.segment.specs.Paper.{paperForm};
-ghost use Rattle.frame_decoder.specs.Reader.{keeping, inPhase, fresh, bytesAt, held};
+ghost use Rattle.frame_decoder.specs.Reader.{keeping, inPhase, fresh, bytesAt, inRange, held};
 ghost use Rattle.frame_decoder.specs.Call.{call};
 ghost use Rattle.frame_decoder.specs.Paper.{paperPhase, paperReader, paperBuffer, paperHeard, paperStep};
 use frame::Envelope;
@@ -23,6 +23,15 @@ pub const MAX_SEGMENT_LEN: usize = 131_083;
 pub const MIN_REASSEMBLY_LEN: usize = 9;
 
 pub const MAX_REASSEMBLY_LEN: usize = 1_048_576;
+
+// Whether buffers of these lengths may be lent.
+pub fn in_range(segment_len: usize, reassembly_len: usize) -> bool
+    ensures { λ r. ⌜ r ≡ inRange «segment_len» «reassembly_len» ⌝ }
+{
+    let first = (MIN_SEGMENT_LEN <= segment_len) & (segment_len <= MAX_SEGMENT_LEN);
+    let second = (MIN_REASSEMBLY_LEN <= reassembly_len) & (reassembly_len <= MAX_REASSEMBLY_LEN);
+    first & second
+}
 
 // What a reader is about.
 pub enum Phase {

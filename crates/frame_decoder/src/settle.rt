@@ -1,33 +1,30 @@
 // What is due without another byte, up to the first answer.
 ghost use mathlib.Core.Path.{_≡_};
 ghost use Prim.Native.Nat.{_+_, _≤_};
-ghost use lib.Dec.{eqb};
 ghost use lib.ListN.{length, take};
 ghost use Rattle.basis.specs.Front.{whole};
-ghost use Rattle.crc.specs.Check32.{crc32};
 ghost use Rattle.refusal.specs.Refusal.{paperRefusal};
 ghost use Rattle.types.specs.Number.{part};
-ghost use Rattle.segment.specs.LittleEndian.{le};
 ghost use Rattle.segment.specs.Header.{headerLength, header as fieldsAre};
-ghost use Rattle.segment.specs.Segment.{trailerLength, segmentLength, headerAt, payloadAt};
+ghost use Rattle.segment.specs.Segment.{maxPayload, segmentLength, headerAt, payloadAt};
 ghost use Rattle.segment.specs.Paper.{paperForm, paperHeader};
-ghost use Rattle.frame_decoder.specs.Settle.{settled, refusing, headerDue, leftoverDue, readSegment, movedDown, readPending, readJoined, segmentDue, settle};
+ghost use Rattle.frame_decoder.specs.Settle.{settled, refusing, headerDue, leftoverDue, readSegment, movedDown, readPending, readJoined, received, segmentDue, settle};
 ghost use Rattle.frame_decoder.specs.Paper.{paperReader};
 ghost use Rattle.frame_decoder.specs.Private.Inside.{paperDue, Admitted};
 use crate::Answer;
 use crate::Buffer;
 use crate::Phase;
 use crate::Reader;
-use crc::crc32;
 use frame::Reading;
 use frame::read::read_envelope;
 use refusal::Refusal;
 use segment::Header;
 use segment::ReadHeader;
+use segment::ReadPayload;
 use segment::TRAILER_LEN;
 use segment::header_len;
-use segment::inner::number;
 use segment::read_header;
+use segment::read_payload;
 use types::Place;
 use types::inner::put_bytes;
 
@@ -157,17 +154,6 @@ fn from_pending(m: Reader, reassembly: &mut [u8], at: usize) -> Due
     )
 }
 
-// The check behind a payload is that of its bytes.
-fn payload_holds(segment: &[u8], start: usize, len: usize) -> bool
-    requires { ⌜ start + len + trailerLength ≤ length (now segment) ⌝ }
-    ensures { λ r. ⌜ r ≡ eqb (le (part (now (segment .entry)) (start + len) trailerLength)) (crc32 (part (now (segment .entry)) start len)) ⌝ }
-{
-    let end = start + len;
-    let computed = crc32(&segment[start..end]);
-    let read = number(segment, end, TRAILER_LEN);
-    read == computed as u64
-}
-
 // A segment that is not self-contained: 7, or its payload is appended, into the free tail of the reassembly buffer.
 fn append(m: Reader, payload: &[u8], reassembly: &mut [u8]) -> Due
     requires { ⌜ m .pending ≤ length (now reassembly) ⌝ }
@@ -183,6 +169,25 @@ fn append(m: Reader, payload: &[u8], reassembly: &mut [u8]) -> Due
     refuse(m, Refusal::ReassemblyTooShort)
 }
 
+// A segment whose check holds: 6, or its payload is read where it stands; or it joins the pending bytes.
+fn received(m: Reader, segment: &[u8], reassembly: &mut [u8], len: usize, self_contained: bool) -> Due
+    requires { ⌜ (segmentLength (paperForm (m .form)) len ≤ length (now segment)) × (m .pending ≤ length (now reassembly)) ⌝ }
+    ensures { λ r. ⌜ settled (paperDue r) (now (reassembly .exit)) ≡ received (paperReader m) (now (segment .entry)) (now (reassembly .entry)) len «self_contained» (part (now (segment .entry)) (headerLength (paperForm (m .form))) len) ⌝ }
+{
+    if self_contained {
+        let pending = m.pending;
+        if pending == 0 {
+            let alone = m.in_phase(Phase::InSegment { len, at: 0 });
+            return from_segment(alone, segment, len, 0);
+        }
+        return refuse(m, Refusal::UnexpectedSelfContained);
+    }
+    let form = m.form;
+    let start = header_len(form);
+    let end = start + len;
+    append(m, &segment[start..end], reassembly)
+}
+
 // So many bytes of a segment are there whose header has passed: 5, then 6 or 7.
 fn segment_due(
     m: Reader,
@@ -192,26 +197,20 @@ fn segment_due(
     len: usize,
     self_contained: bool,
 ) -> Due
-    requires { ⌜ (segmentLength (paperForm (m .form)) len ≤ length (now segment)) × (filled ≤ segmentLength (paperForm (m .form)) len) × (m .pending ≤ length (now reassembly)) ⌝ }
+    requires { ⌜ (len ≤ maxPayload) × (segmentLength (paperForm (m .form)) len ≤ length (now segment)) × (filled ≤ segmentLength (paperForm (m .form)) len) × (m .pending ≤ length (now reassembly)) ⌝ }
     ensures { λ r. ⌜ settled (paperDue r) (now (reassembly .exit)) ≡ segmentDue (paperReader m) (now (segment .entry)) (now (reassembly .entry)) len (payloadAt (paperForm (m .form)) (take filled (now (segment .entry))) (fieldsAre len 0 «self_contained»)) ⌝ }
 {
     let form = m.form;
-    let start = header_len(form);
-    let end = start + len;
-    if filled < end + TRAILER_LEN {
-        return Due::Waits(m);
+    let header = Header {
+        payload: len as u32,
+        uncompressed: 0,
+        self_contained,
+    };
+    match read_payload(form, &segment[..filled], header) {
+        ReadPayload::Incomplete => Due::Waits(m),
+        ReadPayload::Whole => received(m, segment, reassembly, len, self_contained),
+        ReadPayload::Refused(e) => refuse(m, e),
     }
-    if payload_holds(segment, start, len) {
-        if self_contained {
-            let pending = m.pending;
-            if pending == 0 {
-                return from_segment(m, segment, len, 0);
-            }
-            return refuse(m, Refusal::UnexpectedSelfContained);
-        }
-        return append(m, &segment[start..end], reassembly);
-    }
-    refuse(m, Refusal::PayloadCheckDiffers)
 }
 
 pub(crate) fn settle(m: Reader, segment: &[u8], reassembly: &mut [u8]) -> Due

@@ -3,10 +3,10 @@ ghost use mathlib.Core.Path.{_≡_};
 ghost use Prim.Native.Nat.{_-_, _≤_, min};
 ghost use lib.ListN.{length, take};
 ghost use Rattle.types.specs.Write.{put};
-ghost use Rattle.segment.specs.Paper.{paperForm};
+ghost use Rattle.frame_decoder.specs.Reader.{pushed, countsOf, maxSegment};
 ghost use Rattle.frame_decoder.specs.Call.{work};
-ghost use Rattle.frame_decoder.specs.Paper.{paperPhase, paperReader, paperStep};
-ghost use Rattle.frame_decoder.specs.Private.Inside.{Admitted, Roomy, stepOf, FilledIs, TurnIs};
+ghost use Rattle.frame_decoder.specs.Paper.{paperReader, paperStep};
+ghost use Rattle.frame_decoder.specs.Private.Inside.{Admitted, wanted, Roomy, stepOf, FilledIs, TurnIs};
 use crate::Answer;
 use crate::Heard;
 use crate::Phase;
@@ -41,6 +41,70 @@ fn fill_up(segment: &mut [u8], filled: usize, end: usize, bytes: &[u8]) -> usize
     took
 }
 
+// How many bytes of a header or of a segment are there.
+fn there(m: Reader) -> usize
+    ensures { λ r. ⌜ r ≡ countsOf (paperReader m) .there ⌝ }
+{
+    let phase = m.phase;
+    match phase {
+        Phase::Header { filled } => filled,
+        Phase::Rest {
+            filled,
+            len: _,
+            self_contained: _,
+        } => filled,
+        Phase::InSegment { len: _, at: _ } => 0,
+        Phase::InReassembly { at: _ } => 0,
+        Phase::Stopped(_) => 0,
+    }
+}
+
+// With how many it is judged next.
+fn goal(m: Reader) -> usize
+    requires { ⌜ countsOf (paperReader m) .goal ≤ maxSegment ⌝ }
+    ensures { λ r. ⌜ r ≡ countsOf (paperReader m) .goal ⌝ }
+{
+    let form = m.form;
+    let phase = m.phase;
+    match phase {
+        Phase::Header { filled: _ } => header_len(form),
+        Phase::Rest {
+            filled: _,
+            len,
+            self_contained: _,
+        } => header_len(form) + len + TRAILER_LEN,
+        Phase::InSegment { len: _, at: _ } => 0,
+        Phase::InReassembly { at: _ } => 0,
+        Phase::Stopped(_) => 0,
+    }
+}
+
+// So many more are there.
+fn pushed(m: Reader, k: usize) -> Reader
+    requires { ⌜ (k ≤ wanted (countsOf (paperReader m))) × (countsOf (paperReader m) .goal ≤ maxSegment) ⌝ }
+    ensures { λ r. ⌜ paperReader r ≡ pushed k (paperReader m) ⌝ }
+{
+    let phase = m.phase;
+    match phase {
+        Phase::Header { filled } => m.in_phase(Phase::Header { filled: filled + k }),
+        Phase::Rest {
+            filled,
+            len,
+            self_contained,
+        } => {
+            let grown = Phase::Rest {
+                filled: filled + k,
+                len,
+                self_contained,
+            };
+            m.in_phase(grown)
+        }
+        Phase::InSegment { len: _, at: _ } => m,
+        Phase::InReassembly { at: _ } => m,
+        Phase::Stopped(_) => m,
+    }
+}
+
 struct Filled {
     reader: Reader,
     took: usize,
@@ -48,39 +112,12 @@ struct Filled {
 
 // Takes what is still to come of the header or the segment, as far as the bytes go.
 fn fill(m: Reader, segment: &mut [u8], bytes: &[u8]) -> Filled
-    requires { ⌜ Roomy (paperForm (m .form)) (length (now segment)) (paperPhase (m .phase)) ⌝ }
+    requires { ⌜ Roomy (length (now segment)) (countsOf (paperReader m)) × (length (now segment) ≤ maxSegment) ⌝ }
     ensures { λ r. ⌜ FilledIs r (paperReader m) (now (segment .entry)) (now (segment .exit)) (now (bytes .entry)) ⌝ }
 {
-    let form = m.form;
-    let phase = m.phase;
-    match phase {
-        Phase::Header { filled } => {
-            let end = header_len(form);
-            let took = fill_up(segment, filled, end, bytes);
-            let count = filled + took;
-            let reader = m.in_phase(Phase::Header { filled: count });
-            Filled { reader, took }
-        }
-        Phase::Rest {
-            filled,
-            len,
-            self_contained,
-        } => {
-            let end = header_len(form) + len + TRAILER_LEN;
-            let took = fill_up(segment, filled, end, bytes);
-            let count = filled + took;
-            let grown = Phase::Rest {
-                filled: count,
-                len,
-                self_contained,
-            };
-            let reader = m.in_phase(grown);
-            Filled { reader, took }
-        }
-        Phase::InSegment { len: _, at: _ } => Filled { reader: m, took: 0 },
-        Phase::InReassembly { at: _ } => Filled { reader: m, took: 0 },
-        Phase::Stopped(_) => Filled { reader: m, took: 0 },
-    }
+    let took = fill_up(segment, there(m), goal(m), bytes);
+    let reader = pushed(m, took);
+    Filled { reader, took }
 }
 
 // What one turn leaves: the call's step, or a reader to go on with and how many bytes were taken so far.

@@ -4,11 +4,11 @@ use Prim.Native.Nat.{ℕ, _+_, _-_, _≤_, _<_, min}
 use mathlib.Core.Path.{_≡_}
 use mathlib.Core.List.{List}
 use lib.ListN.{length, take, drop}
-use Rattle.segment.specs.Header.{Form, headerLength}
+use Rattle.segment.specs.Header.{Form}
 use Rattle.segment.specs.Segment.{maxPayload, segmentLength}
-use Rattle.frame_decoder.specs.Reader.{Phase, inHeader, inRest, inSegment, inReassembly, stopped, Reader, minSegment, maxSegment, maxReassembly}
+use Rattle.frame_decoder.specs.Reader.{Reader, pushed, Counts, countsOf, minSegment, maxSegment, maxReassembly}
 use Rattle.frame_decoder.specs.Settle as settling
-use Rattle.frame_decoder.specs.Call.{stored, pushed, work}
+use Rattle.frame_decoder.specs.Call.{stored, work}
 use Rattle.frame_decoder.specs.Paper.{paperReader, paperAnswer, paperStep}
 use Rattle.frame_decoder.specs.declared.Reader as code-reader
 use Rattle.frame_decoder.specs.declared.Answer as code-answer
@@ -24,14 +24,14 @@ paperDue (Due.Waits r) = settling.waits (paperReader r)
 abbrev pub stepOf : code-reader.Reader → code-answer.Answer → ℕ → Step
 stepOf r answer taken = record { reader = r; heard = record { answer = answer; taken = taken } }
 
--- ---- counts that lie in what they count
+-- ---- counts that lie in what they count, over a segment buffer of a bytes
 
-abbrev pub Counts : Form → ℕ → ℕ → Phase → Type 0
-Counts form room pending (inHeader n) = n ≤ headerLength form
-Counts form room pending (inRest n len self) = (len ≤ maxPayload) × (segmentLength form len ≤ room) × (n ≤ segmentLength form len)
-Counts form room pending (inSegment len at) = (len ≤ maxPayload) × (segmentLength form len ≤ room) × (at ≤ len)
-Counts form room pending (inReassembly at) = at ≤ pending
-Counts form room pending (stopped why) = Unit
+pub record Lie (form : Form) (a : ℕ) (c : Counts) : Type 0 where
+  pub small : c .payload ≤ maxPayload
+  pub room : segmentLength form (c .payload) ≤ a
+  pub there : c .there ≤ c .goal
+  pub read : c .read ≤ c .all
+  pub from : c .from ≤ c .pending
 
 -- a reader over buffers of a and b bytes
 pub record Admitted (r : Reader) (a b : ℕ) : Type 0 where
@@ -39,29 +39,21 @@ pub record Admitted (r : Reader) (a b : ℕ) : Type 0 where
   pub most : a ≤ maxSegment
   pub held : r .pending ≤ b
   pub largest : b ≤ maxReassembly
-  pub counts : Counts (r .form) a (r .pending) (r .phase)
+  pub counts : Lie (r .form) a (countsOf r)
 
 -- how many bytes are still to come of a header or a segment
-abbrev pub wanted : Form → Phase → ℕ
-wanted form (inHeader n) = headerLength form - n
-wanted form (inRest n len self) = segmentLength form len - n
-wanted form (inSegment len at) = 0
-wanted form (inReassembly at) = 0
-wanted form (stopped why) = 0
+abbrev pub wanted : Counts → ℕ
+wanted c = c .goal - c .there
 
 -- what is still to come has its place in a segment buffer of so many bytes
-abbrev pub Roomy : Form → ℕ → Phase → Type 0
-Roomy form room (inHeader n) = (n ≤ headerLength form) × (headerLength form ≤ room)
-Roomy form room (inRest n len self) = (n ≤ segmentLength form len) × (segmentLength form len ≤ room)
-Roomy form room (inSegment len at) = Unit
-Roomy form room (inReassembly at) = Unit
-Roomy form room (stopped why) = Unit
+abbrev pub Roomy : ℕ → Counts → Type 0
+Roomy room c = (c .there ≤ c .goal) × (c .goal ≤ room)
 
 -- what filling did: as many bytes as were wanted and there, each at its place
 pub record FilledIs (r : Filled) (m : Reader) (segment left bytes : List ℕ) : Type 0 where
-  pub count : r .took ≡ min (wanted (m .form) (m .phase)) (length bytes)
+  pub count : r .took ≡ min (wanted (countsOf m)) (length bytes)
   pub reader : paperReader (r .reader) ≡ pushed (r .took) m
-  pub buffer : left ≡ stored (m .phase) segment (take (r .took) bytes)
+  pub buffer : left ≡ stored m segment (take (r .took) bytes)
 
 -- a call that goes on from there with the rest of the piece, and means the same
 pub record Onward (taken : ℕ) (r : Reader) (segment reassembly piece : List ℕ) (next : ℕ) (x : Reader) (segment′ reassembly′ : List ℕ) : Type 0 where

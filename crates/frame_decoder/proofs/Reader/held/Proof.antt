@@ -1,9 +1,8 @@
 -- `frame_decoder::Reader::held` meets its contract: of an admitted state the sum, of any other nothing. Assumes nothing.
-use Prim.Native.Nat.{ℕ}
 use mathlib.Core.Path.{sym, ap, _∙_}
 use mathlib.Core.Bool.{Bool, cond}
-use Rattle.frame_decoder.specs.Reader.{heldIn, held}
-use Rattle.frame_decoder.specs.Paper.{paperPhase}
+use Rattle.frame_decoder.specs.Reader.{countsOf, heldIn, held}
+use Rattle.frame_decoder.specs.Paper.{paperReader}
 use borrow.Author.Needs.{needs}
 use Rattle.frame_decoder.proofs.Reader.held.Statement.{statement}
 use Rattle.frame_decoder.proofs.Reader.held.Tie as tie
@@ -17,7 +16,7 @@ held-spec =
     (λ c κs. sym (c .before .is-admissible .ensures) ∙ c .if1 .taken)
     (λ c.
     let m = c .before .before .before .args .self in
-    c .held-in .ensures ∙ sym (ap (λ (t : Bool). cond t (heldIn (m .pending) (paperPhase (m .phase))) 0) (sym (c .before .before .is-admissible .ensures) ∙ c .before .if1 .taken)))
+    c .held-in .ensures ∙ sym (ap (λ (t : Bool). cond t (heldIn (countsOf (paperReader m))) 0) (sym (c .before .before .is-admissible .ensures) ∙ c .before .if1 .taken)))
     (λ c.
     let m = c .before .before .args .self in
-    sym (ap (λ (t : Bool). cond t (heldIn (m .pending) (paperPhase (m .phase))) 0) (sym (c .before .is-admissible .ensures) ∙ c .if1 .left))))
+    sym (ap (λ (t : Bool). cond t (heldIn (countsOf (paperReader m))) 0) (sym (c .before .is-admissible .ensures) ∙ c .if1 .left))))

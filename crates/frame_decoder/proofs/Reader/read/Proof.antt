@@ -7,7 +7,7 @@ use Rattle.frame_decoder.specs.Reader.{refused}
 use Rattle.frame_decoder.specs.Call.{outcome, work, call}
 use Rattle.frame_decoder.specs.Paper.{paperReader, paperStep}
 use Rattle.frame_decoder.specs.declared.Step.{Step}
-use Rattle.frame_decoder.proofs.Admits.{admitted}
+use Rattle.frame_decoder.proofs.Steps.{admitted}
 use borrow.Author.Needs.{needs}
 use Rattle.frame_decoder.proofs.Reader.read.Statement.{statement}
 use Rattle.frame_decoder.proofs.Reader.read.Tie as tie
