@@ -5,12 +5,13 @@ use Rattle.basis.specs.Determined.{Determined, DeterminedAs, DeterminedLent}
 use Rattle.basis.proofs.Determined.{by-equation, by-sight, by-meaning}
 use Rattle.types.specs.Paper.{placeOf}
 use Rattle.segment.specs.Paper.{paperForm}
-use Rattle.frame_decoder.specs.Reader.{fresh, held, bytesAt, inRange}
+use Rattle.frame_decoder.specs.Reader.{fresh, countsOf, held, bytesAt, inRange}
 use Rattle.frame_decoder.specs.Paper.{paperReader, paperBuffer}
 use Rattle.frame_decoder.proofs.Told.{reader-told, Lent, lent-apart, Seen, step-apart}
 use Rattle.frame_decoder.proofs.in_range.Reads as ranges
 use Rattle.frame_decoder.proofs.part.Reads as parts
 use Rattle.frame_decoder.proofs.Reader.new.Reads as news
+use Rattle.frame_decoder.proofs.Reader.filled.Reads as fills
 use Rattle.frame_decoder.proofs.Reader.held.Reads as holds
 use Rattle.frame_decoder.proofs.Reader.read.Reads as reads
 use Rattle.frame_decoder.proofs.Reader.consume as lents
@@ -23,6 +24,9 @@ part-determined = by-sight (λ κs r e. r .now) (λ κs a. bytesAt (paperBuffer 
 
 pub new-determined : Determined news.Post
 new-determined = by-meaning reader-told (λ κs a. fresh (paperForm (a .0)) (a .1 .0) (a .1 .1 .0))
+
+pub filled-determined : Determined fills.Post
+filled-determined = by-equation (λ κs a. countsOf (paperReader (a .0)) .there)
 
 pub held-determined : Determined holds.Post
 held-determined = by-equation (λ κs a. held (paperReader (a .0)))

@@ -3,7 +3,7 @@
 ghost use mathlib.Core.Path.{_≡_};
 ghost use Rattle.types.specs.Paper.{placeOf};
 ghost use Rattle.segment.specs.Paper.{paperForm};
-ghost use Rattle.frame_decoder.specs.Reader.{keeping, inPhase, fresh, bytesAt, inRange, held};
+ghost use Rattle.frame_decoder.specs.Reader.{keeping, inPhase, fresh, bytesAt, countsOf, inRange, held};
 ghost use Rattle.frame_decoder.specs.Call.{call};
 ghost use Rattle.frame_decoder.specs.Paper.{paperPhase, paperReader, paperBuffer, paperHeard, paperStep};
 use frame::Envelope;
@@ -141,6 +141,24 @@ impl Reader {
     {
         let next = self.in_phase(phase);
         next.with_pending(pending)
+    }
+
+    // How many bytes of an unfinished segment are there.
+    pub fn filled(self) -> usize
+        ensures { λ r. ⌜ r ≡ countsOf (paperReader self) .there ⌝ }
+    {
+        let phase = self.phase;
+        match phase {
+            Phase::Header { filled } => filled,
+            Phase::Rest {
+                filled,
+                len: _,
+                self_contained: _,
+            } => filled,
+            Phase::InSegment { len: _, at: _ } => 0,
+            Phase::InReassembly { at: _ } => 0,
+            Phase::Stopped(_) => 0,
+        }
     }
 
     // How many bytes are held: those of an unfinished segment, and those pending.

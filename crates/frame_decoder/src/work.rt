@@ -41,25 +41,7 @@ fn fill_up(segment: &mut [u8], filled: usize, end: usize, bytes: &[u8]) -> usize
     took
 }
 
-// How many bytes of a header or of a segment are there.
-fn there(m: Reader) -> usize
-    ensures { λ r. ⌜ r ≡ countsOf (paperReader m) .there ⌝ }
-{
-    let phase = m.phase;
-    match phase {
-        Phase::Header { filled } => filled,
-        Phase::Rest {
-            filled,
-            len: _,
-            self_contained: _,
-        } => filled,
-        Phase::InSegment { len: _, at: _ } => 0,
-        Phase::InReassembly { at: _ } => 0,
-        Phase::Stopped(_) => 0,
-    }
-}
-
-// With how many it is judged next.
+// With how many bytes a header or a segment is judged next.
 fn goal(m: Reader) -> usize
     requires { ⌜ countsOf (paperReader m) .goal ≤ maxSegment ⌝ }
     ensures { λ r. ⌜ r ≡ countsOf (paperReader m) .goal ⌝ }
@@ -115,7 +97,8 @@ fn fill(m: Reader, segment: &mut [u8], bytes: &[u8]) -> Filled
     requires { ⌜ Roomy (length (now segment)) (countsOf (paperReader m)) × (length (now segment) ≤ maxSegment) ⌝ }
     ensures { λ r. ⌜ FilledIs r (paperReader m) (now (segment .entry)) (now (segment .exit)) (now (bytes .entry)) ⌝ }
 {
-    let took = fill_up(segment, there(m), goal(m), bytes);
+    let filled = m.filled();
+    let took = fill_up(segment, filled, goal(m), bytes);
     let reader = pushed(m, took);
     Filled { reader, took }
 }

@@ -14,18 +14,16 @@ use Rattle.basis.specs.Machine.{Reply, handsOn, asksMore, refusesWith, dated, s
 use Rattle.refusal.specs.Refusal.{Refusal, inadmissible}
 use Rattle.types.specs.Write.{put}
 use Rattle.types.proofs.Cut.{both-true}
-use Rattle.types.proofs.Put.{length-put}
 use Rattle.segment.specs.Header.{Form, header, headerLength}
 use Rattle.segment.specs.Segment.{Segment, segmentLength, maxPayload, headerAt, payloadAt}
 use Rattle.segment.proofs.Cases.{payload-cut, payload-is}
-use Rattle.segment.proofs.HeaderLaid.{head-most}
-use Rattle.frame_decoder.specs.Reader.{Phase, inHeader, inRest, inSegment, inReassembly, stopped, Reader, inPhase, Answer, more, refused, minSegment, maxSegment, minReassembly, maxReassembly, between, lentFits, payloadFits, countsFit, admissible}
+use Rattle.frame_decoder.specs.Reader.{Phase, inHeader, inRest, inSegment, inReassembly, stopped, Reader, advanced, pushed, Answer, more, refused, Counts, countsIn, countsOf, minSegment, maxSegment, minReassembly, maxReassembly, between, inRange, lentFits, payloadFits, countsLie, admissible}
 use Rattle.frame_decoder.specs.Settle.{Due, due, waits, Settled, settled, settle}
-use Rattle.frame_decoder.specs.Call.{Outcome, outcome, stored, grown, pushed, work, call}
-use Rattle.frame_decoder.specs.Private.Inside.{Counts, Admitted, wanted}
-use Rattle.frame_decoder.proofs.Admits.{between-true, admitted}
+use Rattle.frame_decoder.specs.Call.{Outcome, outcome, stored, work, call}
+use Rattle.frame_decoder.specs.Private.Inside.{Lie, Admitted, wanted, Roomy}
+use Rattle.frame_decoder.proofs.Steps.{between-true, admitted, roomy, pushed-admitted}
 use Rattle.frame_decoder.proofs.Sound.{Sound, settle-sound}
-use Rattle.frame_decoder.proofs.Works.{work-due, work-more, work-push}
+use Rattle.frame_decoder.proofs.Works.{stored-length, work-due, work-more, work-push}
 use Rattle.stream.specs.Meaning.{Lent, Said, segmentIn, judged, meaningFrom}
 use Rattle.stream.specs.Caller.{State, state, replyOf, undelivered}
 use Rattle.stream.specs.Collect.{saidLength}
@@ -39,33 +37,30 @@ use Rattle.stream.proofs.Rest.{Speaks, Stops, Waits, Replies, Tells, se
 both : {a b : Bool} → a ≡ true → b ≡ true → (a && b) ≡ true
 both {a} {b} p q = ap₂ (λ (x y : Bool). x && y) p q
 
-counts-fit : (f : Form) (room pending : ℕ) (q : Phase) → Counts f room pending q → countsFit f room pending q ≡ true
-unfolding countsFit payloadFits
-counts-fit f room pending (inHeader n) k = le-leb n (headerLength f) k
-counts-fit f room pending (inRest n len self) k =
-    both (both (le-leb len maxPayload (k .0)) (le-leb (segmentLength f len) room (k .1))) (le-leb n (segmentLength f len) (k .2))
-counts-fit f room pending (inSegment len at) k = both (both (le-leb len maxPayload (k .0)) (le-leb (segmentLength f len) room (k .1))) (le-leb at len (k .2))
-counts-fit f room pending (inReassembly at) k = le-leb at pending k
-counts-fit f room pending (stopped why) k = refl
+counts-fit : (f : Form) (a : ℕ) (c : Counts) → Lie f a c → (payloadFits f a (c .payload) && countsLie c) ≡ true
+unfolding payloadFits
+counts-fit f a c k =
+    both (both (le-leb (c .payload) maxPayload (k .small)) (le-leb (segmentLength f (c .payload)) a (k .room)))
+    (both (le-leb (c .there) (c .goal) (k .there)) (both (le-leb (c .read) (c .all) (k .read)) (le-leb (c .from) (c .pending) (k .from))))
 
 module _ (r : Reader) (seg re : List ℕ) where
   pub ready-admissible : Ready (state r seg re) → admissible r (length seg) (length re) ≡ true
-  unfolding admissible lentFits
+  unfolding admissible lentFits inRange
   ready-admissible t =
       let a : ℕ = length seg in
       let b : ℕ = length re in
       both
       (both (both (both (le-leb minSegment a (t .ok .least)) (le-leb a maxSegment (t .ok .most))) (both (le-leb minReassembly b (t .least)) (le-leb b maxReassembly (t .ok .largest))))
       (both (eq-eqb a (r .segment) (t .segment)) (eq-eqb b (r .reassembly) (t .reassembly))))
-      (both (le-leb (r .pending) b (t .ok .held)) (counts-fit (r .form) a (r .pending) (r .phase) (t .ok .counts)))
+      (both (le-leb (r .pending) b (t .ok .held)) (counts-fit (r .form) a (countsOf r) (t .ok .counts)))
 
   pub admissible-ready : admissible r (length seg) (length re) ≡ true → Ready (state r seg re)
-  unfolding admissible lentFits
+  unfolding admissible lentFits inRange
   admissible-ready e =
       let a : ℕ = length seg in
       let b : ℕ = length re in
-      let t = both-true (lentFits r a b) (leb (r .pending) b && countsFit (r .form) a (r .pending) (r .phase)) e in
-      let v = both-true (between minSegment maxSegment a && between minReassembly maxReassembly b) (eqb a (r .segment) && eqb b (r .reassembly)) (t .0) in
+      let t = both-true (lentFits r a b) (leb (r .pending) b && (payloadFits (r .form) a (countsOf r .payload) && countsLie (countsOf r))) e in
+      let v = both-true (inRange a b) (eqb a (r .segment) && eqb b (r .reassembly)) (t .0) in
       let w = both-true (between minSegment maxSegment a) (between minReassembly maxReassembly b) (v .0) in
       let u = both-true (eqb a (r .segment)) (eqb b (r .reassembly)) (v .1) in
       record {
@@ -84,27 +79,23 @@ unfolding meaningFrom
 one-more z pending s taken b stream e =
     ap (λ (f : Front Refusal Segment). judged z f pending s taken (λ pending′ s′. meaningFrom z taken pending′ s′ (b ∷ stream))) e
 
+-- in phase q it is taken, and stands behind those that are there
 pub record Pushes (r : Reader) (q : Phase) (seg re : List ℕ) (b : ℕ) : Type 0 where
-  pub long : length (stored q seg (b ∷ [])) ≡ length seg
-  pub counts : Counts (r .form) (length seg) (r .pending) (grown 1 q)
-  pub most : undelivered (r .pending) (grown 1 q) ≤ suc (undelivered (r .pending) q)
-  pub agrees : Agrees (r .form) q seg → Agrees (r .form) (grown 1 q) (stored q seg (b ∷ []))
+  pub most : undelivered (countsIn (r .form) (r .pending) (advanced 1 q)) ≤ suc (undelivered (countsIn (r .form) (r .pending) q))
+  pub agrees : Agrees (r .form) q seg → Agrees (r .form) (advanced 1 q) (put seg (countsIn (r .form) (r .pending) q .there) (b ∷ []))
   pub same : Agrees (r .form) q seg → (taken : ℕ) (stream : List ℕ)
-      → restAt (lentOf r) (r .pending) q seg re taken (b ∷ stream) ≡ restAt (lentOf r) (r .pending) (grown 1 q) (stored q seg (b ∷ [])) re (suc taken) stream
+      → restAt (lentOf r) (r .pending) q seg re taken (b ∷ stream) ≡ restAt (lentOf r) (r .pending) (advanced 1 q) (put seg (countsIn (r .form) (r .pending) q .there) (b ∷ [])) re (suc taken) stream
 
-module _ (r : Reader) (seg re : List ℕ) (b : ℕ) (cap : length seg ≡ r .segment) (least : minSegment ≤ length seg) where
+module _ (r : Reader) (seg re : List ℕ) (b : ℕ) (cap : length seg ≡ r .segment) where
   -- the bytes at hand, with one more
   one-put : (n : ℕ) → n < length seg → take (n + 1) (put seg n (b ∷ [])) ≡ take n seg ++ b ∷ []
   one-put n h = take-put seg (b ∷ []) n (n + 1) (omega arith) refl
 
-  pushes : (q : Phase) → Counts (r .form) (length seg) (r .pending) q → 0 < wanted (r .form) q → Pushes r q seg re b
-  unfolding grown stored
+  pushes : (q : Phase) → Roomy (length seg) (countsIn (r .form) (r .pending) q) → 0 < wanted (countsIn (r .form) (r .pending) q) → Pushes r q seg re b
   pushes (inHeader n) k w =
-      let h : n < length seg = omega (arith, head-most (r .form)) in
+      let h : n < length seg = omega (arith, k .1) in
       let l : length (take n seg) ≡ n = length-take-le n seg (omega arith) in
       record {
-        long = length-put seg n (b ∷ []) (omega arith);
-        counts = omega arith;
         most = omega arith;
         agrees = λ a. tt;
         same =
@@ -112,12 +103,9 @@ module _ (r : Reader) (seg re : List ℕ) (b : ℕ) (cap : length seg ≡ r .seg
             ∙ ap (λ (s : List ℕ). judging (lentOf r) (take (r .pending) re) s (suc taken) stream) (sym (one-put n h));
       }
   pushes (inRest n len self) k w =
-      let room : segmentLength (r .form) len ≤ length seg = k .1 in
-      let h : n < length seg = omega arith in
+      let h : n < length seg = omega (arith, k .1) in
       let l : length (take n seg) ≡ n = length-take-le n seg (omega arith) in
       record {
-        long = length-put seg n (b ∷ []) (omega arith);
-        counts = (k .0, room, omega arith);
         most = omega arith;
         agrees =
             λ a. (
@@ -126,7 +114,7 @@ module _ (r : Reader) (seg re : List ℕ) (b : ℕ) (cap : length seg ≡ r .seg
             );
         same =
             λ a taken stream. one-more (lentOf r) (take (r .pending) re) (take n seg) taken b stream
-            (roomy-header (lentOf r) (take n seg) (header len 0 self) (a .1) (omega arith)
+            (roomy-header (lentOf r) (take n seg) (header len 0 self) (a .1) (omega (arith, k .1))
             ∙ payload-is (r .form) (take n seg) (header len 0 self) (payload-cut (omega arith)))
             ∙ ap (λ (s : List ℕ). judging (lentOf r) (take (r .pending) re) s (suc taken) stream) (sym (one-put n h));
       }
@@ -226,10 +214,10 @@ module _ (r : Reader) (seg re : List ℕ) (t : Ready (state r seg re)) where
       }
 
   -- nothing is due, and a byte is taken before what the rest of the call says
-  module _ (b : ℕ) (piece : List ℕ) (before : ℕ) (x : Reader) (re′ : List ℕ) (ok : Admitted x (length seg) (length re)) (l : length re′ ≡ length re) (w : 0 < wanted (x .form) (x .phase))
+  module _ (b : ℕ) (piece : List ℕ) (before : ℕ) (x : Reader) (re′ : List ℕ) (ok : Admitted x (length seg) (length re)) (l : length re′ ≡ length re) (w : 0 < wanted (countsOf x))
       (d : Waits r (r .phase) seg re x re′) where
     abbrev seg′ : List ℕ
-    seg′ = stored (x .phase) seg (b ∷ [])
+    seg′ = stored x seg (b ∷ [])
 
     abbrev on : State
     on = state (pushed 1 x) seg′ re′
@@ -238,23 +226,16 @@ module _ (r : Reader) (seg re : List ℕ) (t : Ready (state r seg re)) where
     ready-x = ready-settled (d .lends) ok l
 
     abbrev pushes-x : Pushes x (x .phase) seg re′ b
-    pushes-x = pushes x seg re′ b (ready-x .segment) (ok .least) (x .phase) (ok .counts) w
+    pushes-x = pushes x seg re′ b (ready-x .segment) (x .phase) (roomy ok) w
 
     pub ready-on : Ready on
     ready-on =
-        let p = pushes-x in
-        let s = ready-x in
+        let long : length seg′ ≡ length seg = stored-length x seg (b ∷ []) w (roomy ok) in
         record {
-          segment = p .long ∙ s .segment;
-          reassembly = s .reassembly;
-          least = s .least;
-          ok = record {
-            least = omega (arith, p .long, ok .least);
-            most = omega (arith, p .long, ok .most);
-            held = s .ok .held;
-            largest = s .ok .largest;
-            counts = subst (λ (n : ℕ). Counts (x .form) n (x .pending) (grown 1 (x .phase))) (sym (p .long)) (p .counts);
-          };
+          segment = long ∙ ready-x .segment;
+          reassembly = ready-x .reassembly;
+          least = ready-x .least;
+          ok = subst (λ (n : ℕ). Admitted (pushed 1 x) n (length re′)) (sym long) (pushed-admitted (ready-x .ok) 1 w);
         }
 
     agrees-on : Untouched here → Untouched on

@@ -10,11 +10,11 @@ use Rattle.basis.specs.Lists.{joined}
 use Rattle.basis.specs.Machine.{Dated, refusedAfter, holding, saying}
 use Rattle.types.proofs.BigEndian.{length-part}
 use Rattle.segment.specs.Header.{Form}
-use Rattle.segment.proofs.HeaderLaid.{head-most}
-use Rattle.frame_decoder.specs.Reader.{Phase, inHeader, inRest, inSegment, inReassembly, stopped, heldIn, held, admissible}
-use Rattle.frame_decoder.specs.Private.Inside.{Counts}
+use Rattle.frame_decoder.specs.Reader.{Phase, inHeader, inRest, inSegment, inReassembly, stopped, Counts, countsIn, countsOf, inRange, heldIn, held, admissible}
+use Rattle.frame_decoder.specs.Private.Inside.{Roomy}
+use Rattle.frame_decoder.proofs.Steps.{roomy}
 use Rattle.stream.specs.Meaning.{lent, Said, held as heldAs, Meaning}
-use Rattle.stream.specs.Caller.{inRange, State, holds, segmentHeld, pendingHeld, HearsOf, heardOf, Asked}
+use Rattle.stream.specs.Caller.{State, holds, HearsOf, heardOf, Asked}
 use Rattle.stream.specs.Legal.{Legal, exactly, Suffices}
 use Rattle.stream.specs.Sent.{Given, Sends, SendsFit, AllBack}
 use Rattle.stream.specs.Collect.{Tape, blank, collected, Ending, heldEnd, endOf, HeardAs}
@@ -70,16 +70,15 @@ collected-legal f seg re stream envelopes marks h answers legal s =
 pub held-bytes : (s : State) → Ready s → length (holds s .segment) + length (holds s .pending) ≡ held (s .reader)
 unfolding held
 held-bytes s t =
-    by (s .reader .phase) (t .ok .counts)
-    ∙ sym (ap (λ (b : Bool). cond b (heldIn (s .reader .pending) (s .reader .phase)) 0) (ap₂ (admissible (s .reader)) (sym (t .segment)) (sym (t .reassembly)) ∙ ready-admissible (s .reader) (s .segment) (s .reassembly) t))
+    let c : Counts = countsOf (s .reader) in
+    let room : Roomy (length (s .segment)) c = roomy (t .ok) in
+    ap₂ (λ (i j : ℕ). i + j) (length-take-le (c .there) (s .segment) (omega (arith, room .0, room .1)))
+    (length-part (s .reassembly) (c .from) (c .pending - c .from) (omega (arith, t .ok .counts .from, most (s .reader .form) (s .reader .pending) (s .reader .phase), t .ok .held)))
+    ∙ sym (ap (λ (b : Bool). cond b (heldIn c) 0) (ap₂ (admissible (s .reader)) (sym (t .segment)) (sym (t .reassembly)) ∙ ready-admissible (s .reader) (s .segment) (s .reassembly) t))
   where
-    pends : length (take (s .reader .pending) (s .reassembly)) ≡ s .reader .pending
-    pends = length-take-le (s .reader .pending) (s .reassembly) (t .ok .held)
-
-    by : (q : Phase) → Counts (s .reader .form) (length (s .segment)) (s .reader .pending) q
-        → length (segmentHeld q (s .segment)) + length (pendingHeld (s .reader .pending) q (s .reassembly)) ≡ heldIn (s .reader .pending) q
-    by (inHeader n) k = ap₂ (λ (i j : ℕ). i + j) (length-take-le n (s .segment) (omega (arith, head-most (s .reader .form), t .ok .least))) pends
-    by (inRest n len self) k = ap₂ (λ (i j : ℕ). i + j) (length-take-le n (s .segment) (omega (arith, k .1, k .2))) pends
-    by (inSegment len at) k = omega (arith, pends)
-    by (inReassembly at) k = omega (arith, length-part (s .reassembly) at (s .reader .pending - at) (omega (arith, t .ok .held)))
-    by (stopped why) k = refl
+    most : (f : Form) (p : ℕ) (q : Phase) → countsIn f p q .pending ≤ p
+    most f p (inHeader n) = omega arith
+    most f p (inRest n len self) = omega arith
+    most f p (inSegment len at) = omega arith
+    most f p (inReassembly at) = omega arith
+    most f p (stopped why) = omega arith

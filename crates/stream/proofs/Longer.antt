@@ -5,12 +5,13 @@ use mathlib.Core.List.{List, [], _∷_, _++_}
 use native.Mathlib.Nat.{add-zero}
 use native.Mathlib.Omega.{arith}
 use lib.ListN.{length}
-use Rattle.frame_decoder.specs.Reader.{Reader, Answer, envelopeAt, leftover, more, refused}
+use Rattle.frame_decoder.specs.Reader.{Reader, pushed, Answer, envelopeAt, leftover, more, refused, countsOf}
 use Rattle.frame_decoder.specs.Settle.{Due, due, waits, settled, settle}
-use Rattle.frame_decoder.specs.Call.{Outcome, outcome, stored, pushed, work, call}
+use Rattle.frame_decoder.specs.Call.{Outcome, outcome, stored, work, call}
 use Rattle.frame_decoder.specs.Private.Inside.{Admitted, wanted}
 use Rattle.frame_decoder.proofs.Sound.{Sound, settle-sound}
-use Rattle.frame_decoder.proofs.Works.{work-due, work-more, work-push, work-settled, settle-waits, roomy}
+use Rattle.frame_decoder.proofs.Works.{work-due, work-more, work-push, work-settled, settle-waits}
+use Rattle.frame_decoder.proofs.Steps.{roomy}
 use Rattle.stream.specs.Caller.{state}
 use Rattle.stream.specs.Private.Inside.{Ready}
 use Rattle.stream.proofs.Rest.{Tells, settle-tells}
@@ -42,8 +43,8 @@ module _ (k : ℕ) where
   shifted-next t r seg re b piece (due answer x) re′ e on = work-due (k + t) seg r re (b ∷ piece) e ∙ sym (ap (later k) (work-due t seg r re (b ∷ piece) e))
   shifted-next t r seg re b piece (waits x) re′ e on =
       work-push (k + t) seg r re b piece e
-      ∙ ap (λ (i : ℕ). work i (pushed 1 x) (stored (x .phase) seg (b ∷ [])) re′ piece) (let i : suc (k + t) ≡ k + suc t = omega arith in i)
-      ∙ on (pushed 1 x) (stored (x .phase) seg (b ∷ [])) re′
+      ∙ ap (λ (i : ℕ). work i (pushed 1 x) (stored x seg (b ∷ [])) re′ piece) (let i : suc (k + t) ≡ k + suc t = omega arith in i)
+      ∙ on (pushed 1 x) (stored x seg (b ∷ [])) re′
       ∙ sym (ap (later k) (work-push t seg r re b piece e))
 
   work-later : (piece : List ℕ) (t : ℕ) (r : Reader) (seg re : List ℕ) → work (k + t) r seg re piece ≡ later k (work t r seg re piece)
@@ -79,8 +80,8 @@ due-not-more r seg re re′ (leftover k) d e = apart (λ i. omega arith) e
 due-not-more r seg re re′ (envelopeAt buffer at v) d e = apart (λ i. omega arith) e
 
 -- a reader that waits is settled
-still : (x : Reader) (seg re : List ℕ) → Admitted x (length seg) (length re) → 0 < wanted (x .form) (x .phase) → settle x seg re ≡ settled (waits x) re
-still x seg re ok w = settle-waits x seg re (roomy (x .form) (length seg) (x .pending) (x .phase) (ok .least) (ok .counts)) w
+still : (x : Reader) (seg re : List ℕ) → Admitted x (length seg) (length re) → 0 < wanted (countsOf x) → settle x seg re ≡ settled (waits x) re
+still x seg re ok w = settle-waits x seg re (roomy ok) w
 
 module _ (q : List ℕ) {n : ℕ} {y : Reader} {S R : List ℕ} where
   module _ (t : ℕ) (r : Reader) (seg re : List ℕ) (ready : Ready (state r seg re)) where
@@ -123,5 +124,5 @@ module _ (r : Reader) (seg re p q : List ℕ) (ready : Ready (state r seg re)) w
       ∙ ap (later n) (sym (call-works x seg′ re′ q ready′))
 
 -- a reader that waits leaves everything as it is where nothing more comes
-pub call-waiting : (x : Reader) (seg re : List ℕ) → Ready (state x seg re) → 0 < wanted (x .form) (x .phase) → call x seg re [] ≡ outcome more 0 x seg re
+pub call-waiting : (x : Reader) (seg re : List ℕ) → Ready (state x seg re) → 0 < wanted (countsOf x) → call x seg re [] ≡ outcome more 0 x seg re
 call-waiting x seg re ready w = call-works x seg re [] ready ∙ work-more 0 seg x re (still x seg re (ready .ok) w)

@@ -1,6 +1,6 @@
 -- Demand 3, the first half: in whatever pieces a stream comes, a caller hears what the whole stream means; and each piece is soon used up. The reader is a machine that keeps the law of
 -- `basis`; all else is said there. Assumes nothing.
-use Prim.Native.Nat.{ℕ, _+_, _≤_, _<_}
+use Prim.Native.Nat.{ℕ, _+_, _-_, _≤_, _<_}
 use mathlib.Core.Path.{_≡_, refl, sym, ap, ap₂, _∙_, subst}
 use mathlib.Core.Bool.{Bool, true, false, cond, _&&_}
 use mathlib.Core.List.{List, [], _∷_, _++_}
@@ -14,17 +14,18 @@ use Rattle.basis.specs.Lists.{joined}
 use Rattle.basis.specs.Machine.{Reply, handsOn, asksMore, refusesWith, Step, refusedAfter, holding, refusedWith, Uses, by-more, by-refusal, after-one, Ends, Hears, all-given, one-used, one-refused}
 use Rattle.basis.proofs.Machine.{Machine, Does, Kept, Lawful, asks-refuses, hands-refuses, same-refusal, ends, Open, heard-is, hears-all}
 use Rattle.refusal.specs.Refusal.{Refusal, inadmissible}
+use Rattle.types.specs.Number.{part}
 use Rattle.types.proofs.Cut.{both-true}
 use Rattle.segment.specs.Header.{Form, header, headerLength}
 use Rattle.segment.specs.Segment.{Segment, segmentLength}
 use Rattle.segment.proofs.Cases.{payload-cut, payload-is}
 use Rattle.segment.proofs.HeaderLaid.{head-least, head-most}
-use Rattle.frame_decoder.specs.Reader.{Phase, inHeader, inRest, inSegment, inReassembly, stopped, Reader, fresh, Answer, envelopeAt, leftover, more, refused, minSegment, maxSegment, minReassembly, maxReassembly, between, lentFits, countsFit, admissible}
+use Rattle.frame_decoder.specs.Reader.{Phase, inHeader, inRest, inSegment, inReassembly, stopped, Reader, fresh, Answer, envelopeAt, leftover, more, refused, countsIn, minSegment, maxSegment, minReassembly, maxReassembly, between, inRange, lentFits, payloadFits, countsLie, admissible}
 use Rattle.frame_decoder.specs.Call.{Outcome, outcome, call}
-use Rattle.frame_decoder.specs.Private.Inside.{Counts, wanted}
-use Rattle.frame_decoder.proofs.Admits.{between-true}
+use Rattle.frame_decoder.specs.Private.Inside.{wanted, Roomy}
+use Rattle.frame_decoder.proofs.Steps.{between-true, roomy}
 use Rattle.stream.specs.Meaning.{lent, Said, Held, held, Meaning, segmentIn, judged, meaningFrom, meaning}
-use Rattle.stream.specs.Caller.{inRange, State, state, replyOf, stepOf, reads, segmentHeld, pendingHeld, holds, start, HearsOf, heardOf, Asked}
+use Rattle.stream.specs.Caller.{State, state, replyOf, stepOf, reads, holdsBy, holds, start, HearsOf, heardOf, Asked}
 use Rattle.stream.specs.Private.Inside.{lentOf, judging, restAt, rest, Agrees, Untouched, Ready, Wants, ahead}
 use Rattle.stream.proofs.Heads.{in-header, roomy-header, nothing-seen}
 use Rattle.stream.proofs.Calls.{admissible-ready, Told, Called, call-refused, called}
@@ -38,15 +39,20 @@ module _ (r : Reader) (seg re : List ℕ) (t : Ready (state r seg re)) (taken : 
   unfolding meaningFrom
   quiet pending s e = ap (λ (f : Front Refusal Segment). judged (lentOf r) f pending s taken (λ pending′ s′. meaningFrom (lentOf r) taken pending′ s′ [])) e
 
-  holds-at : (q : Phase) → Counts (r .form) (length seg) (r .pending) q → Agrees (r .form) q seg → 0 < wanted (r .form) q
-      → restAt (lentOf r) (r .pending) q seg re taken [] ≡ holding (held (segmentHeld q seg) (pendingHeld (r .pending) q re))
+  -- no pending byte was handed on
+  all-pending : take (r .pending) re ≡ part re 0 (r .pending - 0)
+  all-pending = ap (λ (n : ℕ). take n re) (let i : r .pending ≡ r .pending - 0 = omega arith in i)
+
+  holds-at : (q : Phase) → Roomy (length seg) (countsIn (r .form) (r .pending) q) → Agrees (r .form) q seg → 0 < wanted (countsIn (r .form) (r .pending) q)
+      → restAt (lentOf r) (r .pending) q seg re taken [] ≡ holding (holdsBy (countsIn (r .form) (r .pending) q) seg re)
   holds-at (inHeader n) k a w =
-      let l : length (take n seg) ≡ n = length-take-le n seg (omega (arith, head-most (r .form), t .ok .least)) in
-      quiet (take (r .pending) re) (take n seg) (in-header (lentOf r) (take n seg) (omega arith))
+      let l : length (take n seg) ≡ n = length-take-le n seg (omega (arith, k .0, k .1)) in
+      quiet (take (r .pending) re) (take n seg) (in-header (lentOf r) (take n seg) (omega arith)) ∙ ap (λ (p : List ℕ). holding (held (take n seg) p)) all-pending
   holds-at (inRest n len self) k a w =
-      let l : length (take n seg) ≡ n = length-take-le n seg (omega (arith, k .1, k .2)) in
+      let l : length (take n seg) ≡ n = length-take-le n seg (omega (arith, k .0, k .1)) in
       quiet (take (r .pending) re) (take n seg)
       (roomy-header (lentOf r) (take n seg) (header len 0 self) (a .1) (omega (arith, k .1, t .segment)) ∙ payload-is (r .form) (take n seg) (header len 0 self) (payload-cut (omega arith)))
+      ∙ ap (λ (p : List ℕ). holding (held (take n seg) p)) all-pending
   holds-at (inSegment len at) k a w = absurd (omega arith)
   holds-at (inReassembly at) k a w = absurd (omega arith)
   holds-at (stopped why) k a w = absurd (omega arith)
@@ -93,7 +99,7 @@ pub lawful : Lawful reader
 lawful =
     record {
       keeps = kept;
-      quiet = λ s taken g a w. holds-at (s .reader) (s .segment) (s .reassembly) g taken (s .reader .phase) (g .ok .counts) a w;
+      quiet = λ s taken g a w. holds-at (s .reader) (s .segment) (s .reassembly) g taken (s .reader .phase) (roomy (g .ok)) a w;
     }
 
 -- ---- every reader
@@ -132,7 +138,7 @@ module _ (f : Form) (seg re : List ℕ) where
           segment = refl;
           reassembly = refl;
           least = b .0;
-          ok = record { least = a .0; most = a .1; held = omega arith; largest = b .1; counts = omega arith };
+          ok = record { least = a .0; most = a .1; held = omega arith; largest = b .1; counts = record { small = omega arith; room = omega (arith, a .0, head-most f); there = omega arith; read = omega arith; from = omega arith } };
         }
 
     pub heard-all : (stream : List ℕ) → heardOf f (length seg) (length re) stream ≡ meaning (lent f (length seg) (length re)) stream
@@ -152,12 +158,12 @@ module _ (f : Form) (seg re : List ℕ) where
 
     -- each call is refused with 1
     pub out-of-range : (piece : List ℕ) → reads (start f seg re) piece ≡ stepOf (outcome (refused inadmissible) 0 (fresh f (length seg) (length re)) seg re)
-    unfolding admissible lentFits inRange
+    unfolding admissible lentFits
     out-of-range piece =
         let a : ℕ = length seg in
         let b : ℕ = length re in
         ap stepOf
-        (call-refused (fresh f a b) seg re piece (ap (λ (t : Bool). (t && (eqb a a && eqb b b)) && (leb 0 b && countsFit f a 0 (inHeader 0))) range))
+        (call-refused (fresh f a b) seg re piece (ap (λ (t : Bool). (t && (eqb a a && eqb b b)) && (leb 0 b && (payloadFits f a 0 && countsLie (countsIn f 0 (inHeader 0))))) range))
 
     refused-first : {taken : ℕ} {piece : List ℕ} {pieces : List (List ℕ)} {m : Meaning} → Hears reads holds (start f seg re) taken (piece ∷ pieces) m → m ≡ refusedAfter inadmissible (taken + 0)
     refused-first {piece = piece} (one-used (by-more e) on) = absurd (asks-refuses (sym e ∙ out-of-range piece))

@@ -24,9 +24,9 @@ use Rattle.segment.proofs.HeaderLaid.{head-most}
 use Rattle.segment.proofs.ReadWritten.{header-found}
 use Rattle.frame.specs.Envelope.{Envelope, envelope}
 use Rattle.frame.proofs.Bounds.{nine-or-more, within-bytes}
-use Rattle.frame_decoder.specs.Reader.{Phase, inHeader, inRest, inSegment, inReassembly, stopped, Reader, keeping, inPhase, segmentBuffer, reassemblyBuffer, bytesAt, Answer, envelopeAt, leftover, more, refused, maxReassembly}
+use Rattle.frame_decoder.specs.Reader.{Phase, inHeader, inRest, inSegment, inReassembly, stopped, Reader, headerPassed, segmentFinished, payloadRead, segmentBuffer, reassemblyBuffer, bytesAt, Answer, envelopeAt, leftover, more, refused, countsIn, countsOf, maxReassembly}
 use Rattle.frame_decoder.specs.Settle.{Due, due, waits, Settled, settled, refusing, headerDue, leftoverDue, fromSegment, readSegment, movedDown, fromPending, readPending, readAlone, readJoined, received, segmentDue, settleAt, settle}
-use Rattle.frame_decoder.specs.Private.Inside.{Counts, Admitted}
+use Rattle.frame_decoder.specs.Private.Inside.{Lie, Admitted}
 use Rattle.frame_decoder.proofs.Parts.{part-taken}
 use Rattle.stream.specs.Meaning.{Lent, lent, Said, envelopeOf, leftoverOf, Meaning, behindHeader, segmentIn, envelopesIn, dropping, bySegment, judged, meaningFrom}
 use Rattle.stream.specs.Caller.{state, replyOf, undelivered}
@@ -40,7 +40,7 @@ use Rattle.stream.proofs.Heads.{by-header, roomy-header, nothing-seen}
 
 pub record Speaks (r : Reader) (q : Phase) (seg re : List ℕ) (x : Said) (r′ : Reader) (re′ : List ℕ) : Type 0 where
   pub lends : lentOf r′ ≡ lentOf r
-  pub less : undelivered (r′ .pending) (r′ .phase) < undelivered (r .pending) q
+  pub less : undelivered (countsOf r′) < undelivered (countsIn (r .form) (r .pending) q)
   pub small : saidLength x ≤ maxReassembly
   pub agrees : Agrees (r′ .form) (r′ .phase) seg
   pub same : Agrees (r .form) q seg → (taken : ℕ) (stream : List ℕ) → restAt (lentOf r) (r .pending) q seg re taken stream ≡ says (dated taken x) (rest (state r′ seg re′) taken stream)
@@ -52,7 +52,7 @@ pub record Stops (r : Reader) (q : Phase) (seg re : List ℕ) (why : Refusal) (r
 
 pub record Waits (r : Reader) (q : Phase) (seg re : List ℕ) (r′ : Reader) (re′ : List ℕ) : Type 0 where
   pub lends : lentOf r′ ≡ lentOf r
-  pub most : undelivered (r′ .pending) (r′ .phase) ≤ undelivered (r .pending) q
+  pub most : undelivered (countsOf r′) ≤ undelivered (countsIn (r .form) (r .pending) q)
   pub agrees : Agrees (r .form) q seg → Agrees (r′ .form) (r′ .phase) seg
   pub same : Agrees (r .form) q seg → (taken : ℕ) (stream : List ℕ) → restAt (lentOf r) (r .pending) q seg re taken stream ≡ rest (state r′ seg re′) taken stream
 
@@ -67,7 +67,7 @@ Tells r q seg re (due answer r′) re′ = Replies r q seg re (replyOf answer se
 Tells r q seg re (waits r′) re′ = Waits r q seg re r′ re′
 
 -- another reader from which the same is to come, and no more of it
-module _ (r x : Reader) (q p : Phase) (seg re re₁ : List ℕ) (l : lentOf x ≡ lentOf r) (m : undelivered (x .pending) p ≤ undelivered (r .pending) q) (agrees : Agrees (r .form) q seg → Agrees (x .form) p seg)
+module _ (r x : Reader) (q p : Phase) (seg re re₁ : List ℕ) (l : lentOf x ≡ lentOf r) (m : undelivered (countsIn (x .form) (x .pending) p) ≤ undelivered (countsIn (r .form) (r .pending) q)) (agrees : Agrees (r .form) q seg → Agrees (x .form) p seg)
     (s : Agrees (r .form) q seg → (taken : ℕ) (stream : List ℕ) → restAt (lentOf r) (r .pending) q seg re taken stream ≡ restAt (lentOf x) (x .pending) p seg re₁ taken stream) where
   replied : (reply : Reply Said Refusal) (r′ : Reader) (re′ : List ℕ) → Replies x p seg re₁ reply r′ re′ → Replies r q seg re reply r′ re′
   replied (handsOn said) r′ re′ t =
@@ -112,7 +112,7 @@ module _ (r : Reader) (seg re : List ℕ) where
         none-whole taken segmentBuffer _ _ unread k ∙ ap (λ (n : ℕ). drops taken stream n (eqb n 0)) unread-length ∙ ap (drops taken stream (len - at)) e
 
     tells-left : (t : Bool) → eqb (len - at) 0 ≡ t → envelope unread ≡ incomplete
-        → Tells r (inSegment len at) seg re (cond t (waits (inPhase r (inHeader 0))) (due (leftover (len - at)) (inPhase r (inHeader 0)))) re
+        → Tells r (inSegment len at) seg re (cond t (waits (payloadRead r (r .pending))) (due (leftover (len - at)) (payloadRead r (r .pending)))) re
     unfolding drops
     tells-left true e k =
         record {
@@ -219,7 +219,7 @@ module _ (r : Reader) (seg re : List ℕ) (n : ℕ) (q : r .phase ≡ inHeader n
       ap (λ (f : Front Refusal Segment). judged (lentOf r) f (take (r .pending) re) (take n seg) taken (λ pending′ s′. meaningFrom (lentOf r) taken pending′ s′ stream)) (by-header (lentOf r) (take n seg) e)
 
   tells-passed : (h : Header) → headerAt (r .form) (take n seg) ≡ whole h → headerLength (r .form) ≤ n → (t : Bool) → leb (segmentLength (r .form) (h .payload)) (length seg) ≡ t
-      → Tells r (inHeader n) seg re (cond t (waits (inPhase r (inRest n (h .payload) (h .self)))) (refusing segmentTooLong r)) re
+      → Tells r (inHeader n) seg re (cond t (waits (headerPassed r n h)) (refusing segmentTooLong r)) re
   tells-passed h e there true t =
       record {
         lends = refl;
@@ -242,7 +242,7 @@ module _ (r : Reader) (seg re : List ℕ) (n : ℕ) (q : r .phase ≡ inHeader n
   tells-header room incomplete e =
       record {
         lends = refl;
-        most = subst (λ (p : Phase). undelivered (r .pending) p ≤ undelivered (r .pending) (inHeader n)) (sym q) (omega arith);
+        most = subst (λ (p : Phase). undelivered (countsIn (r .form) (r .pending) p) ≤ undelivered (countsIn (r .form) (r .pending) (inHeader n))) (sym q) (omega arith);
         agrees = λ a. subst (λ (p : Phase). Agrees (r .form) p seg) (sym q) tt;
         same = λ a taken stream. ap (λ (p : Phase). restAt (lentOf r) (r .pending) p seg re taken stream) (sym q);
       }
@@ -291,10 +291,10 @@ module _ (r : Reader) (seg re : List ℕ) (n len : ℕ) (self : Bool) (q : r .ph
         (let i : len ≡ len - 0 = omega arith in i)
 
     tells-alone : (own : Bool) → payloadAt (r .form) s (header len 0 self) ≡ whole (segment own payload) → own ≡ true → (t : Bool) → eqb (r .pending) 0 ≡ t
-        → Tells r (inRest n len self) seg re (cond t (readSegment r seg len 0) (refusing unexpectedSelfContained r)) re
+        → Tells r (inRest n len self) seg re (cond t (readSegment (segmentFinished r len true) seg len 0) (refusing unexpectedSelfContained r)) re
     tells-alone own e o true k =
-        before r r (inRest n len self) (inSegment len 0) seg re re refl (omega arith) (λ a. tt) (λ a taken stream. by-pending own e o a taken stream true k)
-        (readSegment r seg len 0) re (tells-segment r seg re len 0 room (omega arith) wide)
+        before r (segmentFinished r len true) (inRest n len self) (inSegment len 0) seg re re refl (omega arith) (λ a. tt) (λ a taken stream. by-pending own e o a taken stream true k)
+        (readSegment (segmentFinished r len true) seg len 0) re (tells-segment (segmentFinished r len true) seg re len 0 room (omega arith) wide)
     tells-alone own e o false k = record { lends = refl; stays = refl; same = λ a taken stream. by-pending own e o a taken stream false k }
 
     -- not: its payload joins the pending bytes
@@ -307,11 +307,11 @@ module _ (r : Reader) (seg re : List ℕ) (n len : ℕ) (self : Bool) (q : r .ph
           ∙ ap (λ (b : Bool). cond b (envelopesIn taken reassemblyBuffer 0 0 (take (r .pending) re ++ payload) (λ unread. goes-on taken stream unread [])) (refusedAfter reassemblyTooShort taken))
           (ap₂ (λ (i c : ℕ). leb (i + length payload) c) pending-length (sym most) ∙ k)
 
-      abbrev grown-reader : Reader
-      grown-reader = keeping r (r .pending + length payload) (inReassembly 0)
+      abbrev finished : Reader
+      finished = segmentFinished r (length payload) false
 
       tells-joined : (t : Bool) → leb (r .pending + length payload) (length re) ≡ t
-          → (let d : Settled = cond t (readPending grown-reader (put re (r .pending) payload) 0) (settled (refusing reassemblyTooShort r) re) in Tells r (inRest n len self) seg re (d .says) (d .reassembly))
+          → (let d : Settled = cond t (readPending finished (put re (r .pending) payload) 0) (settled (refusing reassemblyTooShort r) re) in Tells r (inRest n len self) seg re (d .says) (d .reassembly))
       tells-joined true k =
           let fits : r .pending + length payload ≤ length re = leb-true (r .pending + length payload) (length re) k in
           let re₁ : List ℕ = put re (r .pending) payload in
@@ -319,9 +319,9 @@ module _ (r : Reader) (seg re : List ℕ) (n len : ℕ) (self : Bool) (q : r .ph
           let front : take (r .pending) re ++ payload ≡ part re₁ 0 (r .pending + length payload - 0) =
           sym (take-put re payload (r .pending) (r .pending + length payload) within refl) ∙ ap (λ (i : ℕ). take i re₁) (let i : r .pending + length payload ≡ r .pending + length payload - 0 = omega arith in i)
           in
-          before r grown-reader (inRest n len self) (inReassembly 0) seg re re₁ refl (omega (arith, payload-length)) (λ a. tt)
+          before r finished (inRest n len self) (inReassembly 0) seg re re₁ refl (omega (arith, payload-length)) (λ a. tt)
           (λ a taken stream. joined-by a taken stream true k ∙ ap (λ (u : List ℕ). envelopesIn taken reassemblyBuffer 0 0 u (λ unread. goes-on taken stream unread [])) front)
-          (readPending grown-reader re₁ 0 .says) (readPending grown-reader re₁ 0 .reassembly) (tells-pending grown-reader seg re₁ 0 (omega arith) (omega arith) (omega arith))
+          (readPending finished re₁ 0 .says) (readPending finished re₁ 0 .reassembly) (tells-pending finished seg re₁ 0 (omega arith) (omega arith) (omega arith))
       tells-joined false k = record { lends = refl; stays = refl; same = λ a taken stream. joined-by a taken stream false k }
 
     tells-received : (own : Bool) → payloadAt (r .form) s (header len 0 self) ≡ whole (segment own payload)
@@ -336,7 +336,7 @@ module _ (r : Reader) (seg re : List ℕ) (n len : ℕ) (self : Bool) (q : r .ph
   tells-due (payload-cut l) e =
       record {
         lends = refl;
-        most = subst (λ (p : Phase). undelivered (r .pending) p ≤ undelivered (r .pending) (inRest n len self)) (sym q) (omega arith);
+        most = subst (λ (p : Phase). undelivered (countsIn (r .form) (r .pending) p) ≤ undelivered (countsIn (r .form) (r .pending) (inRest n len self))) (sym q) (omega arith);
         agrees = λ a. subst (λ (p : Phase). Agrees (r .form) p seg) (sym q) a;
         same = λ a taken stream. ap (λ (p : Phase). restAt (lentOf r) (r .pending) p seg re taken stream) (sym q);
       }
@@ -354,12 +354,12 @@ module _ (r : Reader) (seg re : List ℕ) (n len : ℕ) (self : Bool) (q : r .ph
 -- ---- by phase
 
 module _ (r : Reader) (seg re : List ℕ) (cap : length seg ≡ r .segment) (most : length re ≡ r .reassembly) (ok : Admitted r (length seg) (length re)) where
-  tells-at : (q : Phase) → r .phase ≡ q → Counts (r .form) (length seg) (r .pending) q → Tells r q seg re (settleAt r seg re q .says) (settleAt r seg re q .reassembly)
+  tells-at : (q : Phase) → r .phase ≡ q → Lie (r .form) (length seg) (countsIn (r .form) (r .pending) q) → Tells r q seg re (settleAt r seg re q .says) (settleAt r seg re q .reassembly)
   unfolding settleAt
-  tells-at (inHeader n) e k = tells-header r seg re n e cap (omega (arith, head-most (r .form), ok .least)) (headerAt (r .form) (take n seg)) refl
-  tells-at (inRest n len self) e k = tells-rest r seg re n len self e cap most (ok .held) (k .1) (k .2) (omega (arith, ok .most)) (ok .largest)
-  tells-at (inSegment len at) e k = tells-segment r seg re len at (k .1) (k .2) (omega (arith, ok .most))
-  tells-at (inReassembly at) e k = tells-pending r seg re at (ok .held) k (ok .largest)
+  tells-at (inHeader n) e k = tells-header r seg re n e cap (omega (arith, k .there, head-most (r .form), ok .least)) (headerAt (r .form) (take n seg)) refl
+  tells-at (inRest n len self) e k = tells-rest r seg re n len self e cap most (ok .held) (k .room) (k .there) (omega (arith, ok .most)) (ok .largest)
+  tells-at (inSegment len at) e k = tells-segment r seg re len at (k .room) (k .read) (omega (arith, ok .most))
+  tells-at (inReassembly at) e k = tells-pending r seg re at (ok .held) (k .from) (ok .largest)
   tells-at (stopped why) e k = record { lends = refl; stays = e; same = λ a taken stream. refl }
 
   pub settle-tells : Tells r (r .phase) seg re (settle r seg re .says) (settle r seg re .reassembly)

@@ -22,10 +22,10 @@ use Rattle.segment.proofs.WrittenRead.{segment-back}
 use Rattle.frame.specs.Header.{headerOf, knownVersion, knownOpcode, hasId, hasWarnings}
 use Rattle.frame.specs.Envelope.{declared, sized, sizeOf, Envelope, afterId, warningsAt, within, inside, envelope}
 use Rattle.frame_encoder.proofs.Laid.{segment-length}
-use Rattle.frame_decoder.specs.Reader.{Reader, fresh, Buffer, segmentBuffer, Answer, envelopeAt, leftover, more, refused, admissible}
+use Rattle.frame_decoder.specs.Reader.{Reader, fresh, Buffer, segmentBuffer, Answer, envelopeAt, leftover, more, refused, admissible, inRange}
 use Rattle.frame_decoder.specs.Call.{Outcome, outcome, call}
 use Rattle.stream.specs.Meaning.{Lent, lent, Said, envelopeOf, leftoverOf, Meaning, dropping, meaningFrom}
-use Rattle.stream.specs.Caller.{inRange, State, state, replyOf, stepOf, reads, holds, start, HearsOf, heardOf, Asked}
+use Rattle.stream.specs.Caller.{State, state, replyOf, stepOf, reads, holds, start, HearsOf, heardOf, Asked}
 use Rattle.stream.specs.Collect.{answersOf}
 use Rattle.stream.specs.Legal.{Message, message, Envelopes, no-envelope, one-envelope, answered, WholeSegment, Legal, legal-end, legal-alone, exactly, Suffices}
 use Rattle.stream.specs.Shut.{Reads, Keeps, machineOf, datesOf, RefusesEverything, NamesOneEnvelope, AsksForever, next, OnlyNods, P5, readingOfP5, P6, readingOfP6}

@@ -15,13 +15,14 @@ use Rattle.types.proofs.BigEndian.{length-part}
 use Rattle.segment.specs.Header.{Form}
 use Rattle.segment.proofs.HeaderLaid.{head-most}
 use Rattle.frame.specs.Envelope.{Envelope}
-use Rattle.frame_decoder.specs.Reader.{Phase, inHeader, inRest, inSegment, inReassembly, stopped, Reader, Buffer, bytesAt, Answer, envelopeAt, leftover, more, refused, maxReassembly}
+use Rattle.frame_decoder.specs.Reader.{Phase, inHeader, inRest, inSegment, inReassembly, stopped, Reader, Buffer, bytesAt, Answer, envelopeAt, leftover, more, refused, countsIn, countsOf, inRange, maxReassembly}
 use Rattle.frame_decoder.specs.Call.{outcome, call}
-use Rattle.frame_decoder.specs.Private.Inside.{Counts, wanted}
+use Rattle.frame_decoder.specs.Private.Inside.{wanted, Roomy}
+use Rattle.frame_decoder.proofs.Steps.{roomy}
 use Rattle.stream.specs.Meaning.{Said, envelopeOf, leftoverOf, held, Meaning}
-use Rattle.stream.specs.Caller.{inRange, State, state, stepOf, reads, segmentHeld, pendingHeld, holds, start, heardOf}
+use Rattle.stream.specs.Caller.{State, state, stepOf, reads, holds, start, heardOf}
 use Rattle.stream.specs.Collect.{bytesOf, markOf, Tape, blank, noted, collected, Ending, refusedEnd, heldEnd, endOf, HeardAs}
-use Rattle.stream.specs.Private.Inside.{Way, Going, notedAll, Onward, endingOf, Over, Wants, ahead, filledOf}
+use Rattle.stream.specs.Private.Inside.{Way, Going, notedAll, Onward, endingOf, Over, Wants, ahead}
 use Rattle.stream.specs.Private.Turn.{PieceUsed, Answered}
 use Rattle.stream.proofs.Calls.{Called, called}
 use Rattle.stream.proofs.Longer.{call-waiting}
@@ -60,6 +61,10 @@ onward-over {w = w} {S = S} {R = R} p q =
 
 -- ---- a call
 
+-- of a piece that ends there n bytes are taken, and less is left
+nearer : (before after : ℕ) {whole rest : ℕ} (taken n end : ℕ) → after + rest < before + whole → rest ≡ whole - n → whole ≡ end - taken → taken + n ≤ end → after + (end - (taken + n)) < before + (end - taken)
+nearer before after taken n end less cut is within = omega arith
+
 module _ (stream : List ℕ) (end : ℕ) (w : Way) (g : Going stream w) (h : w .taken ≤ end) (k : end ≤ length stream) where
   abbrev piece : List ℕ
   piece = part stream (w .taken) (end - w .taken)
@@ -92,7 +97,7 @@ module _ (stream : List ℕ) (end : ℕ) (w : Way) (g : Going stream w) (h : w .
         record {
           going = record { ready = kept .good; untouched = d .sure (g .untouched); within = omega (arith, turn-within) };
           most = turn-within;
-          less = omega (arith, d .less, length-drop n piece, piece-length, turn-within);
+          less = nearer (ahead (w .at)) (ahead (state x seg′ re′)) (w .taken) n end (d .less) (length-drop n piece) piece-length turn-within;
           onward = record {
             handed = dated (w .taken + n) said ∷ [];
             notes = q;
@@ -166,19 +171,23 @@ module _ (stream : List ℕ) (v : Way) (g : Going stream v) (all : v .taken ≡ 
   none-left : drop (v .taken) stream ≡ []
   none-left = ap (λ (n : ℕ). drop n stream) all ∙ drop-length stream
 
-  held-end : (q : Phase) → Counts (r .form) (length seg) (r .pending) q → 0 < wanted (r .form) q
-      → heldEnd (filledOf q) (take (filledOf q) seg) (r .pending) (take (r .pending) re) ≡ endOf (holding (held (segmentHeld q seg) (pendingHeld (r .pending) q re)))
-  held-end (inHeader n) k w =
-      ap₂ (λ (i j : ℕ). heldEnd i (take n seg) j (take (r .pending) re)) (sym (length-take-le n seg (omega (arith, head-most (r .form), g .ready .ok .least))))
+  held-end : heldEnd (countsOf r .there) (take (countsOf r .there) seg) (r .pending) (take (r .pending) re) ≡ endOf (holding (holds (v .at)))
+  held-end =
+      let room : Roomy (length seg) (countsOf r) = roomy (g .ready .ok) in
+      let none : (countsOf r .from ≡ 0) × (countsOf r .pending ≡ r .pending) = none-handed (r .form) (r .pending) (r .phase) wants in
+      let all : take (r .pending) re ≡ holds (v .at) .pending = ap₂ (λ (i n : ℕ). part re i n) (sym (none .0)) (let i : r .pending ≡ countsOf r .pending - countsOf r .from = omega (arith, none .0, none .1) in i) in
+      ap₂ (λ (i j : ℕ). heldEnd i (take (countsOf r .there) seg) j (take (r .pending) re)) (sym (length-take-le (countsOf r .there) seg (omega (arith, room .0, room .1))))
       (sym (length-take-le (r .pending) re (g .ready .ok .held)))
-  held-end (inRest n len self) k w =
-      ap₂ (λ (i j : ℕ). heldEnd i (take n seg) j (take (r .pending) re)) (sym (length-take-le n seg (omega (arith, k .1, k .2))))
-      (sym (length-take-le (r .pending) re (g .ready .ok .held)))
-  held-end (inSegment len at) k w = absurd (omega arith)
-  held-end (inReassembly at) k w = absurd (omega arith)
-  held-end (stopped why) k w = absurd (omega arith)
+      ∙ ap (λ (p : List ℕ). heldEnd (length (take (countsOf r .there) seg)) (take (countsOf r .there) seg) (length p) p) all
+    where
+      none-handed : (f : Form) (p : ℕ) (q : Phase) → 0 < wanted (countsIn f p q) → (countsIn f p q .from ≡ 0) × (countsIn f p q .pending ≡ p)
+      none-handed f p (inHeader n) w = (refl, refl)
+      none-handed f p (inRest n len self) w = (refl, refl)
+      none-handed f p (inSegment len at) w = absurd (omega arith)
+      none-handed f p (inReassembly at) w = absurd (omega arith)
+      none-handed f p (stopped why) w = absurd (omega arith)
 
-  pub over-waiting : Over stream v (v .tape) (heldEnd (filledOf (r .phase)) (take (filledOf (r .phase)) seg) (r .pending) (take (r .pending) re)) seg re
+  pub over-waiting : Over stream v (v .tape) (heldEnd (countsOf r .there) (take (countsOf r .there) seg) (r .pending) (take (r .pending) re)) seg re
   over-waiting =
       record {
         handed = [];
@@ -187,7 +196,7 @@ module _ (stream : List ℕ) (v : Way) (g : Going stream v) (all : v .taken ≡ 
         reader = r;
         gives = subst (λ (l : List ℕ). Uses reads (v .at) (v .taken) l [] usedUp (v .taken + 0) (v .at)) (sym none-left) (by-more (ap stepOf (call-waiting r seg re (g .ready) wants)));
         notes = refl;
-        ends = held-end (r .phase) (g .ready .ok .counts) wants;
+        ends = held-end;
       }
 
 -- ---- the start

@@ -1,13 +1,13 @@
 -- A caller who gives a stream in pieces, and what it hears: docs/RULES.md, 6.3 and 6.11. Assumes nothing.
 use Prim.Native.Nat.{ℕ, _+_, _-_}
-use mathlib.Core.Bool.{Bool, true, false, cond, _&&_}
+use mathlib.Core.Bool.{Bool, true, false, cond}
 use mathlib.Core.List.{List, [], _∷_}
 use lib.ListN.{length, take}
 use Rattle.basis.specs.Machine.{Reply, handsOn, asksMore, refusesWith, Step, step, Dated, refusedAfter, Close, Uses, Hears}
 use Rattle.refusal.specs.Refusal.{Refusal, inadmissible}
 use Rattle.types.specs.Number.{part}
 use Rattle.segment.specs.Header.{Form}
-use Rattle.frame_decoder.specs.Reader.{Phase, inHeader, inRest, inSegment, inReassembly, stopped, Reader, fresh, bytesAt, Answer, envelopeAt, leftover, more, refused, minSegment, maxSegment, minReassembly, maxReassembly, between}
+use Rattle.frame_decoder.specs.Reader.{Reader, fresh, bytesAt, Answer, envelopeAt, leftover, more, refused, Counts, countsOf, inRange, heldIn}
 use Rattle.frame_decoder.specs.Call.{Outcome, call}
 use Rattle.stream.specs.Meaning.{lent, Said, envelopeOf, leftoverOf, Held, held, Meaning, meaning}
 
@@ -38,36 +38,17 @@ reads s piece = stepOf (call (s .reader) (s .segment) (s .reassembly) piece)
 
 -- ---- 6.11: the bytes held
 
-abbrev pub segmentHeld : Phase → List ℕ → List ℕ
-segmentHeld (inHeader n) segment = take n segment
-segmentHeld (inRest n len self) segment = take n segment
-segmentHeld (inSegment len at) segment = []
-segmentHeld (inReassembly at) segment = []
-segmentHeld (stopped why) segment = []
-
-abbrev pub pendingHeld : ℕ → Phase → List ℕ → List ℕ
-pendingHeld pending (inHeader n) reassembly = take pending reassembly
-pendingHeld pending (inRest n len self) reassembly = take pending reassembly
-pendingHeld pending (inSegment len at) reassembly = take pending reassembly
-pendingHeld pending (inReassembly at) reassembly = part reassembly at (pending - at)
-pendingHeld pending (stopped why) reassembly = []
+abbrev pub holdsBy : Counts → List ℕ → List ℕ → Held
+holdsBy c segment reassembly = held (take (c .there) segment) (part reassembly (c .from) (c .pending - c .from))
 
 abbrev pub holds : State → Held
-holds s = held (segmentHeld (s .reader .phase) (s .segment)) (pendingHeld (s .reader .pending) (s .reader .phase) (s .reassembly))
+holds s = holdsBy (countsOf (s .reader)) (s .segment) (s .reassembly)
 
 -- bytes that a reader holds or has still to deliver
-abbrev pub undelivered : ℕ → Phase → ℕ
-undelivered pending (inHeader n) = n + pending
-undelivered pending (inRest n len self) = n + pending
-undelivered pending (inSegment len at) = len - at + pending
-undelivered pending (inReassembly at) = pending - at
-undelivered pending (stopped why) = 0
+abbrev pub undelivered : Counts → ℕ
+undelivered c = heldIn c + (c .all - c .read)
 
 -- ---- a fresh reader
-
--- 6.2: both lent lengths are in range
-unfoldable pub inRange : ℕ → ℕ → Bool
-inRange a b = between minSegment maxSegment a && between minReassembly maxReassembly b
 
 -- a fresh reader over two buffers, whatever they hold
 abbrev pub start : Form → List ℕ → List ℕ → State

@@ -13,9 +13,8 @@ use Rattle.types.specs.Read.{place}
 use Rattle.segment.specs.Header.{Form, headerLength}
 use Rattle.segment.specs.Segment.{segment, segmentLength, segmentAt}
 use Rattle.frame.specs.Envelope.{Envelope, envelope}
-use Rattle.frame_decoder.specs.Reader.{Buffer, segmentBuffer, reassemblyBuffer}
+use Rattle.frame_decoder.specs.Reader.{Buffer, segmentBuffer, reassemblyBuffer, inRange}
 use Rattle.stream.specs.Meaning.{Lent, lent, Said, envelopeOf, held, Meaning, meaning}
-use Rattle.stream.specs.Caller.{inRange}
 
 -- ---- whole envelopes
 

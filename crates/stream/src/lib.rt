@@ -4,20 +4,16 @@ ghost use mathlib.Core.Path.{_≡_};
 ghost use Prim.Native.Nat.{_+_, _≤_, min};
 ghost use lib.ListN.{length};
 ghost use Rattle.segment.specs.Paper.{paperForm};
-ghost use Rattle.frame_decoder.specs.Paper.{paperPhase};
-ghost use Rattle.stream.specs.Caller.{inRange};
+ghost use Rattle.frame_decoder.specs.Reader.{countsOf};
+ghost use Rattle.frame_decoder.specs.Paper.{paperReader};
 ghost use Rattle.stream.specs.Collect.{noted, HeardAs};
 ghost use Rattle.stream.specs.Paper.{tapeOf, paperEnd};
-ghost use Rattle.stream.specs.Private.Inside.{Going, filledOf};
+ghost use Rattle.stream.specs.Private.Inside.{Going};
 ghost use Rattle.stream.specs.declared.End.{End};
 ghost use Rattle.stream.specs.Private.Turn.{wayOf, AllHeard, TurnIs, UsedIs};
 use frame_decoder::Answer;
-use frame_decoder::MAX_REASSEMBLY_LEN;
-use frame_decoder::MAX_SEGMENT_LEN;
-use frame_decoder::MIN_REASSEMBLY_LEN;
-use frame_decoder::MIN_SEGMENT_LEN;
-use frame_decoder::Phase;
 use frame_decoder::Reader;
+use frame_decoder::in_range;
 use frame_decoder::part;
 use refusal::Refusal;
 use segment::Form;
@@ -179,32 +175,14 @@ fn piece_end(taken: usize, cut: usize, len: usize) -> usize
     if cut <= len - taken { taken + cut } else { len }
 }
 
-// How many bytes of an unfinished segment are there.
-fn filled_of(phase: Phase) -> usize
-    ensures { λ r. ⌜ r ≡ filledOf (paperPhase phase) ⌝ }
-{
-    match phase {
-        Phase::Header { filled } => filled,
-        Phase::Rest {
-            filled,
-            len: _,
-            self_contained: _,
-        } => filled,
-        Phase::InSegment { len: _, at: _ } => 0,
-        Phase::InReassembly { at: _ } => 0,
-        Phase::Stopped(_) => 0,
-    }
-}
-
 // The reader waits, and nothing more comes.
 fn at_end(p: Progress) -> Collected
-    ensures { λ r. ⌜ (r .notes ≡ p .notes) × (r .end ≡ End.Held (filledOf (paperPhase (p .reader .phase))) (p .reader .pending)) ⌝ }
+    ensures { λ r. ⌜ (r .notes ≡ p .notes) × (r .end ≡ End.Held (countsOf (paperReader (p .reader)) .there) (p .reader .pending)) ⌝ }
 {
     let notes = p.notes;
     let reader = p.reader;
-    let phase = reader.phase;
     let pending = reader.pending;
-    let filled = filled_of(phase);
+    let filled = reader.filled();
     let end = End::Held(filled, pending);
     Collected { notes, end }
 }
@@ -264,19 +242,6 @@ fn give(
         i += 1;
     }
     give_rest(p, segment, reassembly, stream, envelopes, marks)
-}
-
-fn in_range(segment: usize, reassembly: usize) -> bool
-    ensures { λ r. ⌜ r ≡ inRange segment reassembly ⌝ }
-{
-    if MIN_SEGMENT_LEN <= segment {
-        if segment <= MAX_SEGMENT_LEN {
-            if MIN_REASSEMBLY_LEN <= reassembly {
-                return reassembly <= MAX_REASSEMBLY_LEN;
-            }
-        }
-    }
-    false
 }
 
 // Gives the stream to a fresh reader over the two buffers, cut into pieces of these lengths (and what is left at the end), each used up, and writes down what comes:

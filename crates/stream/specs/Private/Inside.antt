@@ -10,7 +10,7 @@ use Rattle.refusal.specs.Refusal.{Refusal}
 use Rattle.types.specs.Number.{part}
 use Rattle.segment.specs.Header.{Form, header, headerLength}
 use Rattle.segment.specs.Segment.{headerAt}
-use Rattle.frame_decoder.specs.Reader.{Phase, inHeader, inRest, inSegment, inReassembly, stopped, Reader, segmentBuffer, reassemblyBuffer, minReassembly}
+use Rattle.frame_decoder.specs.Reader.{Phase, inHeader, inRest, inSegment, inReassembly, stopped, Reader, segmentBuffer, reassemblyBuffer, countsOf, minReassembly}
 use Rattle.frame_decoder.specs.Private.Inside.{Admitted, wanted}
 use Rattle.stream.specs.Meaning.{Lent, lent, Said, Meaning, segmentIn, envelopesIn, dropping, judged, meaningFrom}
 use Rattle.stream.specs.Caller.{State, state, reads, holds, undelivered}
@@ -60,10 +60,10 @@ pub record Ready (s : State) : Type 0 where
 
 -- bytes are wanting
 abbrev pub Wants : State → Type 0
-Wants s = 0 < wanted (s .reader .form) (s .reader .phase)
+Wants s = 0 < wanted (countsOf (s .reader))
 
 abbrev pub ahead : State → ℕ
-ahead s = undelivered (s .reader .pending) (s .reader .phase)
+ahead s = undelivered (countsOf (s .reader))
 
 -- ---- a caller on its way through a stream
 
@@ -110,11 +110,3 @@ pub record Over (stream : List ℕ) (w : Way) (t : Tape) (e : Ending) (S R : Lis
 -- at most so many answers come before the piece that ends there is used up
 abbrev pub leftTo : ℕ → Way → ℕ
 leftTo end w = ahead (w .at) + (end - w .taken)
-
--- how many bytes of an unfinished segment are there
-abbrev pub filledOf : Phase → ℕ
-filledOf (inHeader n) = n
-filledOf (inRest n len self) = n
-filledOf (inSegment len at) = 0
-filledOf (inReassembly at) = 0
-filledOf (stopped why) = 0

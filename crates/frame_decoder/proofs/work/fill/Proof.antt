@@ -17,17 +17,17 @@ fill-spec =
     (λ c κs. let pre = c .before .before .before .before .pre in omega (arith, pre .0 .1, pre .1))
     (λ c κs.
     let pre = c .before .before .before .before .before .pre in
-    (omega (arith, pre .0 .0, c .goal .ensures, c .before .there .ensures), omega (arith, pre .0 .1, c .goal .ensures)))
+    (omega (arith, pre .0 .0, c .goal .ensures, c .before .before .filled .ensures), omega (arith, pre .0 .1, c .goal .ensures)))
     (λ c κs.
     let start = c .before .before .before .before .before .before .before .before in
-    let there = c .before .before .before .before .there in
+    let there = c .before .before .before .before .before .filled in
     let goal = c .before .before .before .goal in
     let took = c .before .before .fill-up in
     (omega (arith, took .ensures .0, there .ensures, goal .ensures, min-le-left (goal .result - there .result) (length (start .args .bytes .now))), omega (arith, start .pre .0 .1, start .pre .1)))
     (λ c. search needs)
     (λ c.
     let a = c .before .before .before .before .before .before .before .before .before .args in
-    let there = c .before .before .before .before .before .there in
+    let there = c .before .before .before .before .before .before .filled in
     let goal = c .before .before .before .before .goal in
     let took = c .before .before .before .fill-up in
     record {
