@@ -7,8 +7,7 @@ use native.Mathlib.Nat.{add-zero, zero-add, not-suc-le-zero, le-refl}
 use native.Mathlib.Omega.{arith}
 use borrow.Author.Tests.{le-leb, eq-eqb}
 use lib.ListN.{length, take, drop, length-append, take-append-drop, length-drop}
-use lib.Seq.{length-take-le}
-use Rattle.basis.specs.Front.{whole}
+use lib.Seq.{length-take-le, take-length}
 use Rattle.refusal.specs.Refusal.{Refusal, inadmissible, outputTooShort, segmentNotEmpty}
 use Rattle.types.specs.Number.{part}
 use Rattle.types.specs.Write.{put, Check, fine, against, joined}
@@ -16,10 +15,10 @@ use Rattle.types.proofs.Put.{put-none, put-put, length-put, demanded}
 use Rattle.types.specs.ThereAndBack.{Holds}
 use Rattle.types.proofs.Holds.{holds-put}
 use Rattle.segment.specs.Header.{Form, headerLength}
-use Rattle.segment.specs.Segment.{maxPayload, segmentLength, segmentBytes, segment, segmentAt}
+use Rattle.segment.specs.Segment.{maxPayload, segmentLength, segmentBytes, Run, no-segment, one-segment}
 use Rattle.segment.proofs.WrittenRead.{segment-back}
 use Rattle.frame_encoder.specs.Writer.{Writer, writer, fresh, Reply, wrote, refused, Done, done, unless, addCheck, add, finishCheck, finish, pieceOf, pieceCheck, piece}
-use Rattle.frame_encoder.specs.Runs.{Added, none-added, one-added, Split, all-sent, one-sent, Sent, Joins, nothing, behind}
+use Rattle.frame_encoder.specs.Runs.{Added, none-added, one-added, Split, all-sent, one-sent, Sent}
 use Rattle.frame_encoder.proofs.Checked.{AddFine, add-fine, FinishFine, finish-fine, PieceFine, piece-fine, piece-most, piece-some, unless-fine}
 use Rattle.frame_encoder.proofs.Laid.{segment-length, piece-laid}
 
@@ -105,12 +104,20 @@ packed w out (e ∷ es) {v = u} {end = end} small room (one-added {v = v} {mid =
 
 sent : (f : Form) (self : Bool) (payload out : List ℕ) {end : List ℕ} {size : ℕ} → length payload ≤ maxPayload → segmentLength f (length payload) ≤ length out
     → end ≡ put out 0 (segmentBytes f self payload) → size ≡ segmentLength f (length payload) → Sent f self payload out end size
-sent f self payload out {end} small room e s =
+sent f self payload out {end} {size} small room e s =
     let l : length (segmentBytes f self payload) ≡ segmentLength f (length payload) = segment-length f self payload in
     let there : Holds end 0 (segmentBytes f self payload) =
     subst (λ (x : List ℕ). Holds x 0 (segmentBytes f self payload)) (sym e) (holds-put out 0 (segmentBytes f self payload) (omega (arith, zero-add (length (segmentBytes f self payload)))))
     in
-    record { output = e; size-is = s ∙ sym l; reads = segment-back f self payload small end there }
+    let bytes : List ℕ = segmentBytes f self payload in
+    let is : take size end ≡ bytes = ap (λ (k : ℕ). take k end) (s ∙ sym l) ∙ there .is in
+    let itself : Holds (take size end) 0 bytes = subst (λ (x : List ℕ). Holds x 0 bytes) (sym is) (record { room = omega (arith, zero-add (length bytes)); is = take-length bytes }) in
+    record {
+      output = e;
+      size-is = s ∙ sym l;
+      reads = segment-back f self payload small end there;
+      goes-out = record { reads = segment-back f self payload small (take size end) itself; ends = ap length is ∙ l };
+    }
 
 pub packed-segment : (f : Form) (out : List ℕ) (envelopes : List (List ℕ)) {w v : Writer} {mid end : List ℕ} {size taken : ℕ} → headerLength f ≤ length out
     → Added (fresh f) out envelopes w mid → finish w mid ≡ done v (wrote size taken) end → Sent f true (joined envelopes) out end size × (v ≡ fresh f)
@@ -153,11 +160,10 @@ piece-segment f out envelope {v} {end} {size} {taken} e =
     in
     (subst (λ (k : ℕ). Sent f false (take k envelope) out end size) (sym t) s, t, sym (ap (λ (d : Done). d .after) (a .1)))
 
-pub split-joins : (f : Form) (envelope : List ℕ) (outputs : List (List ℕ)) → Split f envelope outputs → Joins f outputs envelope
-split-joins f [] [] all-sent = nothing
-split-joins f envelope (end ∷ others) (one-sent out {taken = taken} some e more) =
-    let s = piece-segment f out envelope e in
-    subst (λ (x : List ℕ). Joins f (end ∷ others) x) (take-append-drop taken envelope) (behind (s .0 .reads) (split-joins f (drop taken envelope) others more))
+pub split-joins : {f : Form} {envelope : List ℕ} {segments : List (List ℕ)} → Split f envelope segments → Run f segments envelope
+split-joins all-sent = no-segment
+split-joins {f} {envelope} {segments} (one-sent out {taken = taken} some e more) =
+    subst (Run f segments) (take-append-drop taken envelope) (one-segment (piece-segment f out envelope e .0 .goes-out) (split-joins more))
 
 -- ---- it always comes to an end
 
@@ -174,7 +180,7 @@ module _ (f : Form) (out : List ℕ) (room : segmentLength f maxPayload ≤ leng
       ∙ demanded segmentNotEmpty _ (eq-eqb 0 0 refl)
       ∙ demanded outputTooShort fine (le-leb (segmentLength f (pieceOf (length envelope))) (length out) (omega (arith, m .1))))
 
-  split-by : (n : ℕ) (envelope : List ℕ) → length envelope ≤ n → (outputs : List (List ℕ)) × Split f envelope outputs
+  split-by : (n : ℕ) (envelope : List ℕ) → length envelope ≤ n → (segments : List (List ℕ)) × Split f envelope segments
   split-by zero [] h = ([], all-sent)
   split-by zero (x ∷ xs) h = absurd (not-suc-le-zero h)
   split-by (suc n) [] h = ([], all-sent)
@@ -183,7 +189,7 @@ module _ (f : Form) (out : List ℕ) (room : segmentLength f maxPayload ≤ leng
       let some : 0 < t = piece-some (length (x ∷ xs)) (omega arith) in
       let l : length (drop t (x ∷ xs)) ≡ length (x ∷ xs) - t = length-drop t (x ∷ xs) in
       let r = split-by n (drop t (x ∷ xs)) (omega arith) in
-      (put out 0 (segmentBytes f false (take t (x ∷ xs))) ∷ r .0, one-sent out {envelope = x ∷ xs} (omega arith) (piece-made (x ∷ xs)) (r .1))
+      (take (segmentLength f t) (put out 0 (segmentBytes f false (take t (x ∷ xs)))) ∷ r .0, one-sent out {envelope = x ∷ xs} (omega arith) (piece-made (x ∷ xs)) (r .1))
 
-  pub split-ends : (envelope : List ℕ) → (outputs : List (List ℕ)) × Split f envelope outputs
+  pub split-ends : (envelope : List ℕ) → (segments : List (List ℕ)) × Split f envelope segments
   split-ends envelope = split-by (length envelope) envelope (le-refl (length envelope))

@@ -1,7 +1,8 @@
 -- A whole segment, written and read: docs/RULES.md, 3.5, and the checks of 6.5 and 6.6. Assumes nothing.
 use Prim.Native.Nat.{ℕ, _+_}
-use mathlib.Core.Bool.{Bool, cond}
-use mathlib.Core.List.{List, _++_}
+use mathlib.Core.Path.{_≡_}
+use mathlib.Core.Bool.{Bool, false, cond}
+use mathlib.Core.List.{List, [], _∷_, _++_}
 use lib.Dec.{ltb, eqb}
 use lib.ListN.{length, take}
 use Rattle.basis.specs.Front.{Front, incomplete, refuses, whole, ifWhole}
@@ -69,3 +70,15 @@ payloadAt form s h =
 
 unfoldable pub segmentAt : Form → List ℕ → Front Refusal Segment
 segmentAt form s = ifWhole (headerAt form s) (payloadAt form s)
+
+-- ---- segments of a line
+
+-- a whole segment to which none of 2, 3 and 5 applies: its bytes, whether it is self-contained, and its payload
+pub record WholeSegment (form : Form) (bytes : List ℕ) (self : Bool) (payload : List ℕ) : Type 0 where
+  pub reads : segmentAt form bytes ≡ whole (segment self payload)
+  pub ends : length bytes ≡ segmentLength form (length payload)
+
+-- segments one after the other that are not self-contained, and their payloads joined
+pub data Run (form : Form) : List (List ℕ) → List ℕ → Type 0 where
+  no-segment : Run form [] []
+  one-segment : {bytes payload payloads : List ℕ} {others : List (List ℕ)} → WholeSegment form bytes false payload → Run form others payloads → Run form (bytes ∷ others) (payload ++ payloads)

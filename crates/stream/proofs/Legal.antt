@@ -11,6 +11,7 @@ use lib.Dec.{leb}
 use lib.ListN.{length, take, drop, length-append, length-drop, take-append-drop}
 use lib.Seq.{take-append-seam, drop-append-seam}
 use Rattle.basis.specs.Front.{Front, incomplete, refuses, whole, ifWhole}
+use Rattle.basis.specs.Lists.{joined, AllWithin}
 use Rattle.basis.specs.Machine.{Dated, dated, says, refusedAfter, holding, saying}
 use Rattle.basis.proofs.Fronts.{not-whole, refused-not-whole, whole-value}
 use Rattle.basis.proofs.Machine.{saying-both}
@@ -18,7 +19,7 @@ use Rattle.refusal.specs.Refusal.{Refusal, segmentTooLong, reassemblyTooShort}
 use Rattle.types.specs.Read.{place}
 use Rattle.types.proofs.BigEndian.{length-part}
 use Rattle.segment.specs.Header.{Form, Header, headerLength}
-use Rattle.segment.specs.Segment.{Segment, segment, segmentLength, headerAt, payloadAt, segmentAt}
+use Rattle.segment.specs.Segment.{Segment, segment, segmentLength, headerAt, payloadAt, segmentAt, WholeSegment, Run, no-segment, one-segment}
 use Rattle.segment.proofs.Cases.{payloadIn, Payloads, payload-cut, payload-differs, payload-good, payload-case}
 use Rattle.segment.proofs.ReadWritten.{header-found}
 use Rattle.frame.specs.Envelope.{Envelope, envelope}
@@ -26,7 +27,7 @@ use Rattle.frame.proofs.Bounds.{nothing-behind, cut-short}
 use Rattle.frame_decoder.specs.Reader.{Buffer, segmentBuffer, reassemblyBuffer}
 use Rattle.stream.specs.Meaning.{Lent, Said, envelopeOf, held, Meaning, segmentIn, envelopesIn, dropping, bySegment, meaningFrom}
 use Rattle.stream.specs.Segments.{lastOf, judgedAt, byFirst, segmentwise}
-use Rattle.stream.specs.Legal.{Message, message, Envelopes, no-envelope, one-envelope, answered, WholeSegment, Run, no-segment, one-segment, complete, others, unread, runAnswered, Legal, legal-end, legal-alone, legal-run, exactly, NeverShort, RunFits, Fits}
+use Rattle.stream.specs.Legal.{Message, message, Envelopes, no-envelope, one-envelope, answered, Parted, parts, parted, runAnswered, Legal, legal-end, legal-alone, legal-run, exactly, NeverShort, Fits}
 use Rattle.stream.proofs.Lists.{cut-take, cut-drop}
 use Rattle.stream.proofs.Envelopes.{nothing-there, none-whole, first-whole}
 use Rattle.stream.proofs.Heads.{header-behind, payload-behind, roomy-header, large-header}
@@ -52,52 +53,35 @@ pub envelopes-end : {s : List ℕ} {es : List Message} → Envelopes s es → en
 envelopes-end no-envelope h = (refl, refl)
 envelopes-end (one-envelope {bytes = e} {others = s} {v = v} r l on) h = absurd (not-whole (sym h ∙ whole-behind e s v r))
 
+pub parted-none : (n : ℕ) → parted n [] ≡ parts [] [] n
+unfolding parted
+parted-none n = refl
+
 -- the first is whole within n bytes, or not
 module _ (e : Message) (es : List Message) (n : ℕ) where
-  module _ (h : length (e .bytes) ≤ n) where
-    test : leb (length (e .bytes)) n ≡ true
-    test = le-leb (length (e .bytes)) n h
+  by-first : Bool → Parted
+  by-first t = let p : Parted = parted (n - length (e .bytes)) es in cond t (parts (e ∷ p .complete) (p .others) (p .unread)) (parts [] (e ∷ es) n)
 
-    pub complete-more : complete n (e ∷ es) ≡ e ∷ complete (n - length (e .bytes)) es
-    unfolding complete
-    complete-more = ap (λ (b : Bool). cond b (e ∷ complete (n - length (e .bytes)) es) []) test
+  pub parted-more : length (e .bytes) ≤ n → (let p : Parted = parted (n - length (e .bytes)) es in parted n (e ∷ es) ≡ parts (e ∷ p .complete) (p .others) (p .unread))
+  unfolding by-first parted
+  parted-more h = ap by-first (le-leb (length (e .bytes)) n h)
 
-    pub others-more : others n (e ∷ es) ≡ others (n - length (e .bytes)) es
-    unfolding others
-    others-more = ap (λ (b : Bool). cond b (others (n - length (e .bytes)) es) (e ∷ es)) test
-
-    unread-more : unread n (e ∷ es) ≡ unread (n - length (e .bytes)) es
-    unfolding unread
-    unread-more = ap (λ (b : Bool). cond b (unread (n - length (e .bytes)) es) n) test
-
-  module _ (h : n < length (e .bytes)) where
-    fails : leb (length (e .bytes)) n ≡ false
-    fails = lt-leb (length (e .bytes)) n h
-
-    pub complete-less : complete n (e ∷ es) ≡ []
-    unfolding complete
-    complete-less = ap (λ (b : Bool). cond b (e ∷ complete (n - length (e .bytes)) es) []) fails
-
-    pub others-less : others n (e ∷ es) ≡ e ∷ es
-    unfolding others
-    others-less = ap (λ (b : Bool). cond b (others (n - length (e .bytes)) es) (e ∷ es)) fails
-
-    unread-less : unread n (e ∷ es) ≡ n
-    unfolding unread
-    unread-less = ap (λ (b : Bool). cond b (unread (n - length (e .bytes)) es) n) fails
+  pub parted-less : n < length (e .bytes) → parted n (e ∷ es) ≡ parts [] (e ∷ es) n
+  unfolding by-first parted
+  parted-less h = ap by-first (lt-leb (length (e .bytes)) n h)
 
 -- The first bytes x of whole envelopes: those that are whole in x are said, and bytes of one more are left.
 pub record Cut (x y : List ℕ) (es : List Message) : Type 0 where
   pub left : List ℕ
-  pub long : length left ≡ unread (length x) es
-  pub on : Envelopes (left ++ y) (others (length x) es)
+  pub long : length left ≡ parted (length x) es .unread
+  pub on : Envelopes (left ++ y) (parted (length x) es .others)
   pub short : envelope left ≡ incomplete
   pub less : length left ≤ length x
   pub tells : (taken : ℕ) (buffer : Buffer) (at : ℕ) (goes-on : List ℕ → Meaning)
-      → envelopesIn taken buffer at 0 x goes-on ≡ saying (answered taken buffer at (complete (length x) es)) (goes-on left)
+      → envelopesIn taken buffer at 0 x goes-on ≡ saying (answered taken buffer at (parted (length x) es .complete)) (goes-on left)
 
 cut-none : (x y : List ℕ) → [] ≡ x ++ y → Cut x y []
-unfolding complete others unread answered
+unfolding parted answered
 cut-none [] y q =
     record {
       left = [];
@@ -115,38 +99,40 @@ module _ (e s x y : List ℕ) (v : Envelope) (es : List Message) (r : envelope e
   cut-next h i =
       let n : ℕ = length x in
       let d : length (drop (length e) x) ≡ n - length e = length-drop (length e) x in
+      let more = parted-more (message e v) es n h in
       let te : take (length e) x ≡ e = cut-take e s x y q h in
       let ex : envelope x ≡ whole v =
       ap envelope (sym (take-append-drop (length e) x) ∙ ap (λ (i : List ℕ). i ++ drop (length e) x) te) ∙ whole-behind e (drop (length e) x) v r
       in
       record {
         left = i .left;
-        long = i .long ∙ ap (λ (k : ℕ). unread k es) d ∙ sym (unread-more (message e v) es n h);
-        on = subst (Envelopes (i .left ++ y)) (ap (λ (k : ℕ). others k es) d ∙ sym (others-more (message e v) es n h)) (i .on);
+        long = i .long ∙ ap (λ (k : ℕ). parted k es .unread) d ∙ sym (ap (λ (p : Parted). p .unread) more);
+        on = subst (Envelopes (i .left ++ y)) (ap (λ (k : ℕ). parted k es .others) d ∙ sym (ap (λ (p : Parted). p .others) more)) (i .on);
         short = i .short;
         less = omega (arith, i .less);
         tells =
             λ taken buffer at goes-on. first-whole taken buffer goes-on at x v ex
             ∙ ap (λ (k : ℕ). says (dated taken (envelopeOf buffer (place at k) (take k x) v)) (envelopesIn taken buffer (at + k) 0 (drop k x) goes-on)) l
             ∙ ap₂ (λ (b : List ℕ) (m : Meaning). says (dated taken (envelopeOf buffer (place at (length e)) b v)) m) te (i .tells taken buffer (at + length e) goes-on)
-            ∙ ap (λ (k : ℕ). saying (answered taken buffer at (message e v ∷ complete k es)) (goes-on (i .left))) d
-            ∙ ap (λ (k : List Message). saying (answered taken buffer at k) (goes-on (i .left))) (sym (complete-more (message e v) es n h));
+            ∙ ap (λ (k : ℕ). saying (answered taken buffer at (message e v ∷ parted k es .complete)) (goes-on (i .left))) d
+            ∙ ap (λ (p : Parted). saying (answered taken buffer at (p .complete)) (goes-on (i .left))) (sym more);
       }
 
   cut-here : Envelopes s es → length x < length e → Cut x y (message e v ∷ es)
   unfolding answered
   cut-here on h =
+      let less = parted-less (message e v) es (length x) h in
       let all : envelope (x ++ y) ≡ whole v = ap envelope (sym q) ∙ whole-behind e s v r in
       let short : envelope x ≡ incomplete = ap envelope (sym (take-append-seam x y)) ∙ cut-short (x ++ y) all (length x) (omega arith) in
       record {
         left = x;
-        long = sym (unread-less (message e v) es (length x) h);
-        on = subst (Envelopes (x ++ y)) (sym (others-less (message e v) es (length x) h)) (subst (λ (i : List ℕ). Envelopes i (message e v ∷ es)) q (one-envelope r l on));
+        long = sym (ap (λ (p : Parted). p .unread) less);
+        on = subst (Envelopes (x ++ y)) (sym (ap (λ (p : Parted). p .others) less)) (subst (λ (i : List ℕ). Envelopes i (message e v ∷ es)) q (one-envelope r l on));
         short = short;
         less = omega arith;
         tells =
             λ taken buffer at goes-on. none-whole taken buffer goes-on at x short
-            ∙ ap (λ (k : List Message). saying (answered taken buffer at k) (goes-on x)) (sym (complete-less (message e v) es (length x) h));
+            ∙ ap (λ (p : Parted). saying (answered taken buffer at (p .complete)) (goes-on x)) (sym less);
       }
 
 pub cut : {s : List ℕ} {es : List Message} → Envelopes s es → (x y : List ℕ) → s ≡ x ++ y → Cut x y es
@@ -281,23 +267,25 @@ module _ (z : Lent) where
   module _ {s p : List ℕ} (g : WholeSegment (z .form) s false p) (small : segmentLength (z .form) (length p) ≤ z .segment) (u q : List ℕ) (room : length u + length p ≤ z .reassembly)
       {es : List Message} (c : Cut (u ++ p) q es) (taken : ℕ) (stream : List ℕ) where
     run-said : meaningFrom z taken u [] (s ++ stream)
-        ≡ saying (answered (taken + length s) reassemblyBuffer 0 (complete (length u + length p) es)) (meaningFrom z (taken + length s) (c .left) [] stream)
+        ≡ saying (answered (taken + length s) reassemblyBuffer 0 (parted (length u + length p) es .complete)) (meaningFrom z (taken + length s) (c .left) [] stream)
     run-said =
         joined-said g small taken u stream true (le-leb (length u + length p) (z .reassembly) room)
         ∙ c .tells (taken + length s) reassemblyBuffer 0 (λ unread. meaningFrom z (taken + length s) unread [] stream)
-        ∙ ap (λ (n : ℕ). saying (answered (taken + length s) reassemblyBuffer 0 (complete n es)) (meaningFrom z (taken + length s) (c .left) [] stream)) (length-append u p)
+        ∙ ap (λ (n : ℕ). saying (answered (taken + length s) reassemblyBuffer 0 (parted n es .complete)) (meaningFrom z (taken + length s) (c .left) [] stream)) (length-append u p)
 
-  means-run : {s p : List ℕ} (run : Run (z .form) s p) (taken : ℕ) (u stream : List ℕ) {es : List Message} → Envelopes (u ++ p) es → envelope u ≡ incomplete → NeverShort (meaningFrom z taken u [] (s ++ stream))
-      → meaningFrom z taken u [] (s ++ stream) ≡ saying (runAnswered run taken (length u) es) (meaningFrom z (taken + length s) [] [] stream)
+  means-run : {ss : List (List ℕ)} {p : List ℕ} (run : Run (z .form) ss p) (taken : ℕ) (u stream : List ℕ) {es : List Message} → Envelopes (u ++ p) es → envelope u ≡ incomplete
+      → NeverShort (meaningFrom z taken u [] (joined ss ++ stream)) → meaningFrom z taken u [] (joined ss ++ stream) ≡ saying (runAnswered run taken (length u) es) (meaningFrom z (taken + length (joined ss)) [] [] stream)
+  unfolding joined
   means-run no-segment taken u stream {es} w h f =
       let d = envelopes-end (subst (λ (k : List ℕ). Envelopes k es) (append-nil u) w) h in
       ap₂ (λ (k : ℕ) (v : List ℕ). meaningFrom z k v [] stream) (sym (add-zero taken)) (d .0)
-  means-run (one-segment {bytes = s} {payload = p} {others = t} {payloads = q} g run) taken u stream {es} w h f =
+  means-run (one-segment {bytes = s} {payload = p} {payloads = q} {others = ts} g run) taken u stream {es} w h f =
+      let t : List ℕ = joined ts in
       let c : Cut (u ++ p) q es = cut w (u ++ p) q (sym (append-assoc u p q)) in
       let j : length (u ++ p) ≡ length u + length p = length-append u p in
       let a : (s ++ t) ++ stream ≡ s ++ (t ++ stream) = append-assoc s t stream in
       let k : NeverShort (meaningFrom z taken u [] (s ++ (t ++ stream))) = subst (λ (l : List ℕ). NeverShort (meaningFrom z taken u [] l)) a f in
-      let first : List (Dated Said) = answered (taken + length s) reassemblyBuffer 0 (complete (length u + length p) es) in
+      let first : List (Dated Said) = answered (taken + length s) reassemblyBuffer 0 (parted (length u + length p) es .complete) in
       let e : meaningFrom z taken u [] (s ++ (t ++ stream)) ≡ saying first (meaningFrom z (taken + length s) (c .left) [] (t ++ stream)) =
       run-said g (room-for g taken u (t ++ stream) k) u q (room-with g taken u (t ++ stream) k) c taken (t ++ stream)
       in
@@ -305,9 +293,9 @@ module _ (z : Lent) where
       ap (meaningFrom z taken u []) a
       ∙ e
       ∙ ap (saying first) (means-run run (taken + length s) (c .left) stream (c .on) (c .short) (never-then first _ (subst NeverShort e k)))
-      ∙ ap₂ (λ (i : ℕ) (m : Meaning). saying first (saying (runAnswered run (taken + length s) i (others (length (u ++ p)) es)) m)) (c .long) (ap (λ (i : ℕ). meaningFrom z i [] [] stream) n)
-      ∙ ap (λ (i : ℕ). saying first (saying (runAnswered run (taken + length s) (unread i es) (others i es)) (meaningFrom z (taken + length (s ++ t)) [] [] stream))) j
-      ∙ sym (saying-both first (runAnswered run (taken + length s) (unread (length u + length p) es) (others (length u + length p) es)) (meaningFrom z (taken + length (s ++ t)) [] [] stream))
+      ∙ ap₂ (λ (i : ℕ) (m : Meaning). saying first (saying (runAnswered run (taken + length s) i (parted (length (u ++ p)) es .others)) m)) (c .long) (ap (λ (i : ℕ). meaningFrom z i [] [] stream) n)
+      ∙ ap (λ (i : ℕ). saying first (saying (runAnswered run (taken + length s) (parted i es .unread) (parted i es .others)) (meaningFrom z (taken + length (s ++ t)) [] [] stream))) j
+      ∙ sym (saying-both first (runAnswered run (taken + length s) (parted (length u + length p) es .unread) (parted (length u + length p) es .others)) (meaningFrom z (taken + length (s ++ t)) [] [] stream))
 
   -- A legal stream, the lent sizes sufficing, means exactly its envelopes, and nothing is held.
   pub legal-means : {s : List ℕ} {taken : ℕ} {answers : List (Dated Said)} → Legal (z .form) taken s answers → NeverShort (meaningFrom z taken [] [] s) → meaningFrom z taken [] [] s ≡ exactly answers
@@ -317,33 +305,39 @@ module _ (z : Lent) where
       let first : List (Dated Said) = answered (taken + length s) segmentBuffer (headerLength (z .form)) es in
       let e : meaningFrom z taken [] [] (s ++ t) ≡ saying first (meaningFrom z (taken + length s) [] [] t) = alone-said g w (room-for g taken [] t h) taken t in
       e ∙ ap (saying first) (legal-means on (never-then first _ (subst NeverShort e h))) ∙ sym (saying-both first later (holding (held [] [])))
-  legal-means (legal-run {taken = taken} {bytes = s} {stream = t} {es = es} {later = later} run w on) h =
+  legal-means (legal-run {taken = taken} {segments = ss} {stream = t} {es = es} {later = later} run w on) h =
+      let s : List ℕ = joined ss in
       let first : List (Dated Said) = runAnswered run taken 0 es in
       let e : meaningFrom z taken [] [] (s ++ t) ≡ saying first (meaningFrom z (taken + length s) [] [] t) = means-run run taken [] t w nothing-there h in
       e ∙ ap (saying first) (legal-means on (never-then first _ (subst NeverShort e h))) ∙ sym (saying-both first later (holding (held [] [])))
 
   -- ---- sizes that fit suffice
 
-  run-suffices : {s p : List ℕ} (run : Run (z .form) s p) → RunFits z run → (taken : ℕ) (u stream : List ℕ) {es : List Message} → Envelopes (u ++ p) es → envelope u ≡ incomplete
-      → length (u ++ p) ≤ z .reassembly → ((k : ℕ) → k ≡ taken + length s → NeverShort (meaningFrom z k [] [] stream)) → NeverShort (meaningFrom z taken u [] (s ++ stream))
+  fitting : {s p : List ℕ} {self : Bool} → WholeSegment (z .form) s self p → length s ≤ z .segment → segmentLength (z .form) (length p) ≤ z .segment
+  fitting g h = subst (λ (n : ℕ). n ≤ z .segment) (g .ends) h
+
+  run-suffices : {ss : List (List ℕ)} {p : List ℕ} (run : Run (z .form) ss p) → AllWithin (z .segment) ss → (taken : ℕ) (u stream : List ℕ) {es : List Message} → Envelopes (u ++ p) es → envelope u ≡ incomplete
+      → length (u ++ p) ≤ z .reassembly → ((k : ℕ) → k ≡ taken + length (joined ss) → NeverShort (meaningFrom z k [] [] stream)) → NeverShort (meaningFrom z taken u [] (joined ss ++ stream))
+  unfolding joined
   run-suffices no-segment r taken u stream {es} w h l f =
       let d = envelopes-end (subst (λ (k : List ℕ). Envelopes k es) (append-nil u) w) h in
       subst (λ (v : List ℕ). NeverShort (meaningFrom z taken v [] stream)) (sym (d .0)) (f taken (sym (add-zero taken)))
-  run-suffices (one-segment {bytes = s} {payload = p} {others = t} {payloads = q} g run) r taken u stream {es} w h l f =
+  run-suffices (one-segment {bytes = s} {payload = p} {payloads = q} {others = ts} g run) r taken u stream {es} w h l f =
+      let t : List ℕ = joined ts in
       let c : Cut (u ++ p) q es = cut w (u ++ p) q (sym (append-assoc u p q)) in
       let l₁ : length (u ++ (p ++ q)) ≡ length u + length (p ++ q) = length-append u (p ++ q) in
       let l₂ : length (p ++ q) ≡ length p + length q = length-append p q in
       let l₃ : length (c .left ++ q) ≡ length (c .left) + length q = length-append (c .left) q in
       let l₄ : length (u ++ p) ≡ length u + length p = length-append u p in
       let l₅ : length (s ++ t) ≡ length s + length t = length-append s t in
-      subst NeverShort (sym (ap (meaningFrom z taken u []) (append-assoc s t stream) ∙ run-said g (r .0) u q (omega arith) c taken (t ++ stream)))
-      (then-never (answered (taken + length s) reassemblyBuffer 0 (complete (length u + length p) es)) _
+      subst NeverShort (sym (ap (meaningFrom z taken u []) (append-assoc s t stream) ∙ run-said g (fitting g (r .0)) u q (omega arith) c taken (t ++ stream)))
+      (then-never (answered (taken + length s) reassemblyBuffer 0 (parted (length u + length p) es .complete)) _
       (run-suffices run (r .1) (taken + length s) (c .left) stream (c .on) (c .short) (omega (arith, c .less)) (λ k e. f k (e ∙ let i : taken + length s + length t ≡ taken + length (s ++ t) = omega arith in i))))
 
   pub fits-suffices : {s : List ℕ} {taken : ℕ} {answers : List (Dated Said)} (g : Legal (z .form) taken s answers) → Fits z g → NeverShort (meaningFrom z taken [] [] s)
   unfolding meaningFrom
   fits-suffices legal-end r = tt
   fits-suffices (legal-alone {taken = taken} {bytes = s} {stream = t} {es = es} g w on) r =
-      subst NeverShort (sym (alone-said g w (r .0) taken t)) (then-never (answered (taken + length s) segmentBuffer (headerLength (z .form)) es) _ (fits-suffices on (r .1)))
-  fits-suffices (legal-run {taken = taken} {bytes = s} {stream = t} run w on) r =
+      subst NeverShort (sym (alone-said g w (fitting g (r .0)) taken t)) (then-never (answered (taken + length s) segmentBuffer (headerLength (z .form)) es) _ (fits-suffices on (r .1)))
+  fits-suffices (legal-run {taken = taken} {stream = t} run w on) r =
       run-suffices run (r .0) taken [] t w nothing-there (r .1) (λ k e. subst (λ (i : ℕ). NeverShort (meaningFrom z i [] [] t)) (sym e) (fits-suffices on (r .2)))

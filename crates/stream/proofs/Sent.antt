@@ -1,38 +1,36 @@
 -- What the writers of this library wrote, packed or in pieces, is legal, and comes back as the fields given. Assumes nothing.
 use Prim.Native.Nat.{ℕ, _+_, _-_, _≤_}
 use mathlib.Core.Path.{_≡_, refl, sym, ap, ap₂, _∙_, subst}
-use mathlib.Core.Bool.{Bool, true, false, cond}
+use mathlib.Core.Bool.{true}
 use mathlib.Core.List.{List, [], _∷_, _++_, append-assoc, append-nil}
-use native.Mathlib.Nat.{zero-add}
+use native.Mathlib.Decide.{decLe}
+use native.Mathlib.Nat.{zero-add, lt-of-not-le}
 use native.Mathlib.Omega.{arith}
-use lib.Dec.{leb}
 use lib.ListN.{length, take, drop, length-append, take-append-drop}
 use lib.Seq.{length-take-le, take-length}
-use Rattle.basis.specs.Front.{Front, incomplete, whole, ifWhole}
+use Rattle.basis.specs.Front.{incomplete, whole}
 use Rattle.basis.specs.Machine.{Dated}
-use Rattle.refusal.specs.Refusal.{Refusal}
 use Rattle.types.specs.Write.{joined}
 use Rattle.types.specs.ThereAndBack.{Holds, Stands}
 use Rattle.types.proofs.Holds.{accepted}
-use Rattle.segment.specs.Header.{Form, Header, headerLength}
-use Rattle.segment.specs.Segment.{segment, segmentLength, payloadAt, segmentAt}
+use Rattle.segment.specs.Header.{Form, headerLength}
+use Rattle.segment.specs.Segment.{segmentLength, WholeSegment, Run, no-segment, one-segment}
 use Rattle.frame.specs.Envelope.{Envelope, envelope}
 use Rattle.frame.specs.Write.{envelopeBytes, envelopeCheck}
 use Rattle.frame.specs.ThereAndBack.{ReadBack}
 use Rattle.frame.proofs.WrittenRead.{written-back}
-use Rattle.frame_encoder.specs.Writer.{Writer, fresh, wrote, done, addCheck, finishCheck, add, finish, piece}
+use Rattle.frame_encoder.specs.Writer.{Writer, fresh, wrote, done, addCheck, finishCheck, add, finish}
 use Rattle.frame_encoder.specs.Runs.{Added, none-added, one-added}
 use Rattle.frame_encoder.proofs.Checked.{AddFine, add-fine, FinishFine, finish-fine}
 use Rattle.frame_encoder.proofs.Laid.{segment-length}
 use Rattle.frame_encoder.specs.Runs.{Sent}
-use Rattle.frame_encoder.proofs.Runs.{passed, packed-segment, piece-segment}
+use Rattle.frame_encoder.proofs.Runs.{passed, packed-segment, split-joins}
 use Rattle.frame_decoder.specs.Reader.{Buffer, segmentBuffer, reassemblyBuffer}
 use Rattle.stream.specs.Meaning.{Lent, Said}
-use Rattle.stream.specs.Legal.{Message, message, Envelopes, no-envelope, one-envelope, answered, WholeSegment, Run, no-segment, one-segment, complete, others, unread, runAnswered, Legal, legal-end, legal-alone, legal-run, RunFits, Fits}
-use Rattle.stream.specs.Sent.{Given, Written, WrittenAll, none-written, one-written, InPieces, all-out, one-out, Sends, nothing-sent, sends-packed, sends-pieces, PiecesFit, SendsFit, Back, AllBack}
+use Rattle.stream.specs.Legal.{Message, message, Envelopes, no-envelope, one-envelope, answered, Parted, parted, runAnswered, Legal, legal-end, legal-alone, legal-run, Fits}
+use Rattle.stream.specs.Sent.{Given, Written, WrittenAll, none-written, one-written, Sends, nothing-sent, sends-packed, sends-pieces, SendsFit, Back, AllBack}
 use Rattle.stream.proofs.Envelopes.{nothing-there}
-use Rattle.stream.proofs.Heads.{header-behind, payload-behind}
-use Rattle.stream.proofs.Legal.{envelopes-end, Cut, cut, Found, found}
+use Rattle.stream.proofs.Legal.{envelopes-end, parted-none, parted-more, parted-less, Cut, cut}
 
 -- ---- envelopes
 
@@ -98,96 +96,45 @@ both-back (x ∷ first) later [] hs a b = absurd a
 both-back (x ∷ first) later (g ∷ gs) hs a b = (a .0, both-back first later gs hs (a .1) b)
 
 -- those of them that are whole within n bytes, and the others
-record Split (n : ℕ) (es : List Message) (gs : List Given) : Type 0 where
+record Halves (p : Parted) (gs : List Given) : Type 0 where
   first : List Given
   later : List Given
   both : gs ≡ first ++ later
-  whole-back : Backs (complete n es) first
-  others-back : Backs (others n es) later
+  whole-back : Backs (p .complete) first
+  others-back : Backs (p .others) later
 
-split : (n : ℕ) (es : List Message) (gs : List Given) → Backs es gs → Split n es gs
-unfolding complete others
-split n [] gs b = record { first = []; later = gs; both = refl; whole-back = tt; others-back = b }
-split n (e ∷ es) [] b = absurd b
-split n (e ∷ es) (g ∷ gs) b = by (leb (length (e .bytes)) n) refl (split (n - length (e .bytes)) es gs (b .1))
+halves : (n : ℕ) (es : List Message) (gs : List Given) → Backs es gs → Halves (parted n es) gs
+halves n [] gs b = subst (λ (p : Parted). Halves p gs) (sym (parted-none n)) (record { first = []; later = gs; both = refl; whole-back = tt; others-back = b })
+halves n (e ∷ es) [] b = absurd b
+halves n (e ∷ es) (g ∷ gs) b = by (decLe (length (e .bytes)) n) (halves (n - length (e .bytes)) es gs (b .1))
   where
-    by : (t : Bool) → leb (length (e .bytes)) n ≡ t → Split (n - length (e .bytes)) es gs → Split n (e ∷ es) (g ∷ gs)
-    by true q i =
-        record {
-          first = g ∷ i .first;
-          later = i .later;
-          both = ap (λ (k : List Given). g ∷ k) (i .both);
-          whole-back = subst (λ (t : Bool). Backs (cond t (e ∷ complete (n - length (e .bytes)) es) []) (g ∷ i .first)) (sym q) (b .0, i .whole-back);
-          others-back = subst (λ (t : Bool). Backs (cond t (others (n - length (e .bytes)) es) (e ∷ es)) (i .later)) (sym q) (i .others-back);
-        }
-    by false q i =
-        record {
-          first = [];
-          later = g ∷ gs;
-          both = refl;
-          whole-back = subst (λ (t : Bool). Backs (cond t (e ∷ complete (n - length (e .bytes)) es) []) []) (sym q) tt;
-          others-back = subst (λ (t : Bool). Backs (cond t (others (n - length (e .bytes)) es) (e ∷ es)) (g ∷ gs)) (sym q) b;
-        }
+    by : Dec (length (e .bytes) ≤ n) → Halves (parted (n - length (e .bytes)) es) gs → Halves (parted n (e ∷ es)) (g ∷ gs)
+    by (yes h) i =
+        subst (λ (p : Parted). Halves p (g ∷ gs)) (sym (parted-more e es n h))
+        (record { first = g ∷ i .first; later = i .later; both = ap (λ (k : List Given). g ∷ k) (i .both); whole-back = (b .0, i .whole-back); others-back = i .others-back })
+    by (no few) i = subst (λ (p : Parted). Halves p (g ∷ gs)) (sym (parted-less e es n (lt-of-not-le few))) (record { first = []; later = g ∷ gs; both = refl; whole-back = tt; others-back = b })
 
 nothing-given : (es : List Message) (gs : List Given) → es ≡ [] → Backs es gs → AllBack [] gs
 nothing-given es [] e b = tt
 nothing-given es (g ∷ gs) e b = subst (λ (x : List Message). Backs x (g ∷ gs)) e b
 
-run-back : {f : Form} {s p : List ℕ} (run : Run f s p) (taken : ℕ) (u : List ℕ) (es : List Message) (gs : List Given) → Envelopes (u ++ p) es → envelope u ≡ incomplete → Backs es gs
+run-back : {f : Form} {ss : List (List ℕ)} {p : List ℕ} (run : Run f ss p) (taken : ℕ) (u : List ℕ) (es : List Message) (gs : List Given) → Envelopes (u ++ p) es → envelope u ≡ incomplete → Backs es gs
     → AllBack (runAnswered run taken (length u) es) gs
 run-back no-segment taken u es gs w h b = nothing-given es gs (envelopes-end (subst (λ (k : List ℕ). Envelopes k es) (append-nil u) w) h .1) b
 run-back (one-segment {bytes = s} {payload = p} {payloads = q} g run) taken u es gs w h b =
     let c : Cut (u ++ p) q es = cut w (u ++ p) q (sym (append-assoc u p q)) in
     let n : ℕ = length u + length p in
     let j : length (u ++ p) ≡ n = length-append u p in
-    let i : Split n es gs = split n es gs b in
-    let on : AllBack (runAnswered run (taken + length s) (length (c .left)) (others n es)) (i .later) =
-    run-back run (taken + length s) (c .left) (others n es) (i .later) (subst (λ (k : ℕ). Envelopes (c .left ++ q) (others k es)) j (c .on)) (c .short) (i .others-back)
+    let i : Halves (parted n es) gs = halves n es gs b in
+    let on : AllBack (runAnswered run (taken + length s) (length (c .left)) (parted n es .others)) (i .later) =
+    run-back run (taken + length s) (c .left) (parted n es .others) (i .later) (subst (λ (k : ℕ). Envelopes (c .left ++ q) (parted k es .others)) j (c .on)) (c .short) (i .others-back)
     in
     subst (AllBack (runAnswered (one-segment g run) taken (length u) es)) (sym (i .both))
-    (both-back (answered (taken + length s) reassemblyBuffer 0 (complete n es)) (runAnswered run (taken + length s) (unread n es) (others n es)) (i .first) (i .later)
-    (answered-back (taken + length s) reassemblyBuffer 0 (complete n es) (i .first) (i .whole-back))
-    (subst (λ (k : ℕ). AllBack (runAnswered run (taken + length s) k (others n es)) (i .later)) (c .long ∙ ap (λ (k : ℕ). unread k es) j) on))
+    (both-back (answered (taken + length s) reassemblyBuffer 0 (parted n es .complete)) (runAnswered run (taken + length s) (parted n es .unread) (parted n es .others)) (i .first) (i .later)
+    (answered-back (taken + length s) reassemblyBuffer 0 (parted n es .complete) (i .first) (i .whole-back))
+    (subst (λ (k : ℕ). AllBack (runAnswered run (taken + length s) k (parted n es .others)) (i .later)) (c .long ∙ ap (λ (k : ℕ). parted k es .unread) j) on))
 
 -- ---- segments
-
--- a segment at the front of an output is a segment by itself
-module _ (f : Form) (s q : List ℕ) (self : Bool) (p : List ℕ) (e : segmentAt f (s ++ q) ≡ whole (segment self p)) (l : segmentLength f (length p) ≤ length s) where
-  by-itself : segmentAt f s ≡ whole (segment self p)
-  unfolding segmentAt
-  by-itself =
-      let i : Found f (s ++ q) self p = found f (s ++ q) self p e in
-      let n : i .head .payload ≡ length p = i .long in
-      ap (λ (x : Front Refusal Header). ifWhole x (payloadAt f s)) (sym (header-behind f s q (omega arith)) ∙ i .header) ∙ sym (payload-behind f s q (i .head) (omega arith)) ∙ i .payload
-
--- what a writer put at an output's front, and as much of it as it says
-went-out : (f : Form) (self : Bool) (p out end : List ℕ) (size : ℕ) → Sent f self p out end size → WholeSegment f (take size end) self p
-went-out f self p out end size s =
-    let n : size ≡ segmentLength f (length p) = s .size-is ∙ segment-length f self p in
-    let i : Found f end self p = found f end self p (s .reads) in
-    let l : length (take size end) ≡ size = length-take-le size end (omega (arith, i .enough, i .long)) in
-    record {
-      reads = by-itself f (take size end) (drop size end) self p (ap (segmentAt f) (take-append-drop size end) ∙ s .reads) (omega arith);
-      ends = l ∙ n;
-    }
-
--- a segment that a writer put there is as long as it says
-sent-length : (f : Form) (self : Bool) (p out end : List ℕ) (size : ℕ) → Sent f self p out end size → segmentLength f (length p) ≡ size
-sent-length f self p out end size s = sym (s .size-is ∙ segment-length f self p)
-
--- an envelope in pieces is a run that joins to it
-record Ran (z : Lent) (e s : List ℕ) (fit : Type 0) : Type 0 where
-  run : Run (z .form) s e
-  fits : fit → RunFits z run
-
-pieces-run : (z : Lent) (e s : List ℕ) (ps : InPieces (z .form) e s) → Ran z e s (PiecesFit z ps)
-pieces-run z e s all-out = record { run = no-segment; fits = λ k. tt }
-pieces-run z e s (one-out out {end = end} {others = later} {size = size} {taken = taken} some p on) =
-    let i = piece-segment (z .form) out e p in
-    let j = pieces-run z (drop taken e) later on in
-    let l : segmentLength (z .form) (length (take taken e)) ≡ size = sent-length (z .form) false (take taken e) out end size (i .0) in
-    subst (λ (x : List ℕ). Ran z x (take size end ++ later) ((size ≤ z .segment) × PiecesFit z on)) (take-append-drop taken e)
-    (record { run = one-segment (went-out (z .form) false (take taken e) out end size (i .0)) (j .run); fits = λ k. (omega (arith, k .0), j .fits (k .1)) })
 
 -- an output into which something was written has room for a header
 header-room : (f : Form) (out : List ℕ) (es : List (List ℕ)) {w v : Writer} {mid end : List ℕ} {size taken : ℕ} → Added (fresh f) out es w mid → finish w mid ≡ done v (wrote size taken) end
@@ -214,7 +161,7 @@ module _ (z : Lent) where
   sent-comes taken nothing-sent = record { answers = []; legal = legal-end; back = tt; fits = λ k. tt }
   sent-comes taken (sends-packed {gs = gs} {later = later} {envelopes = es} {out = out} {end = end} {size = size} ws added finished on) =
       let s : Sent (z .form) true (joined es) out end size = packed-segment (z .form) out es (header-room (z .form) out es added finished) added finished .0 in
-      let g : WholeSegment (z .form) (take size end) true (joined es) = went-out (z .form) true (joined es) out end size s in
+      let g : WholeSegment (z .form) (take size end) true (joined es) = s .goes-out in
       let t : Told (joined es) gs = all-told gs es ws in
       let n : ℕ = taken + length (take size end) in
       let i = sent-comes n on in
@@ -223,15 +170,15 @@ module _ (z : Lent) where
         answers = first ++ i .answers;
         legal = legal-alone g (t .envelopes) (i .legal);
         back = both-back first (i .answers) gs later (answered-back n segmentBuffer (headerLength (z .form)) (t .es) gs (t .back)) (i .back);
-        fits = λ k. (omega (arith, k .0, sent-length (z .form) true (joined es) out end size s), i .fits (k .1));
+        fits = λ k. (omega (arith, k .0, g .ends, s .size-is, segment-length (z .form) true (joined es)), i .fits (k .1));
       }
-  sent-comes taken (sends-pieces {g = g} {later = later} {envelope = e} {bytes = s} w ps on) =
-      let r : Ran z e s (PiecesFit z ps) = pieces-run z e s ps in
+  sent-comes taken (sends-pieces {g = g} {later = later} {envelope = e} {segments = ss} w ps on) =
+      let r : Run (z .form) ss e = split-joins ps in
       let t : Told e (g ∷ []) = one-told g e w in
-      let i = sent-comes (taken + length s) on in
+      let i = sent-comes (taken + length (joined ss)) on in
       record {
-        answers = runAnswered (r .run) taken 0 (t .es) ++ i .answers;
-        legal = legal-run (r .run) (t .envelopes) (i .legal);
-        back = both-back (runAnswered (r .run) taken 0 (t .es)) (i .answers) (g ∷ []) later (run-back (r .run) taken [] (t .es) (g ∷ []) (t .envelopes) nothing-there (t .back)) (i .back);
-        fits = λ k. (r .fits (k .0), k .1, i .fits (k .2));
+        answers = runAnswered r taken 0 (t .es) ++ i .answers;
+        legal = legal-run r (t .envelopes) (i .legal);
+        back = both-back (runAnswered r taken 0 (t .es)) (i .answers) (g ∷ []) later (run-back r taken [] (t .es) (g ∷ []) (t .envelopes) nothing-there (t .back)) (i .back);
+        fits = λ k. (k .0, k .1, i .fits (k .2));
       }

@@ -17,7 +17,7 @@ use Rattle.refusal.specs.Refusal.{Refusal}
 use Rattle.types.specs.Number.{be, beFrom}
 use Rattle.types.specs.Read.{Place, place}
 use Rattle.segment.specs.Header.{Form, short, headerLength}
-use Rattle.segment.specs.Segment.{segmentLength, segmentBytes, maxPayload}
+use Rattle.segment.specs.Segment.{segmentLength, segmentBytes, maxPayload, WholeSegment}
 use Rattle.segment.proofs.WrittenRead.{segment-back}
 use Rattle.frame.specs.Header.{headerOf, knownVersion, knownOpcode, hasId, hasWarnings}
 use Rattle.frame.specs.Envelope.{declared, sized, sizeOf, Envelope, afterId, warningsAt, within, inside, envelope}
@@ -27,7 +27,7 @@ use Rattle.frame_decoder.specs.Call.{Outcome, outcome, call}
 use Rattle.stream.specs.Meaning.{Lent, lent, Said, envelopeOf, leftoverOf, Meaning, dropping, meaningFrom}
 use Rattle.stream.specs.Caller.{State, state, replyOf, stepOf, reads, holds, start, HearsOf, heardOf, Asked}
 use Rattle.stream.specs.Collect.{answersOf}
-use Rattle.stream.specs.Legal.{Message, message, Envelopes, no-envelope, one-envelope, answered, WholeSegment, Legal, legal-end, legal-alone, exactly, Suffices}
+use Rattle.stream.specs.Legal.{Message, message, Envelopes, no-envelope, one-envelope, answered, Legal, legal-end, legal-alone, exactly, Suffices}
 use Rattle.stream.specs.Shut.{Reads, Keeps, machineOf, datesOf, RefusesEverything, NamesOneEnvelope, AsksForever, next, OnlyNods, P5, readingOfP5, P6, readingOfP6}
 use Rattle.stream.proofs.Calls.{admissible-ready, call-refused}
 use Rattle.stream.proofs.Legal.{fits-suffices, segment-first, said-then}
@@ -127,7 +127,7 @@ module _ (f : Form) (seg re : List ℕ) (range : inRange (length seg) (length re
       let asked : Asked (inRange (length seg) (length re)) (line ∷ []) = subst (λ (b : Bool). Asked b (line ∷ [])) (sym range) tt in
       let g : Legal f 0 (line ++ []) answers = legal-alone (whole-segment f true (P5 ++ P6) (omega arith)) both-envelopes legal-end in
       let h = pieces-are-heard f seg re (line ∷ []) asked in
-      used h answers (demand-3 f seg re (line ∷ []) asked h .1 answers g (record { range = range; never = fits-suffices z g (room, tt) }))
+      used h answers (demand-3 f seg re (line ∷ []) asked h .1 answers g (record { range = range; never = fits-suffices z g (subst (λ (n : ℕ). n ≤ length seg) (sym (segment-length f true (P5 ++ P6))) room, tt) }))
 
   calls : Two (start f seg re) line (envelopeOf segmentBuffer (place (headerLength f) 9) P5 readingOfP5) (envelopeOf segmentBuffer (place (headerLength f + 9) 9) P6 readingOfP6)
   calls = two (line-used .uses)

@@ -2,16 +2,17 @@
 use Prim.Native.Nat.{ℕ, _+_, _-_, _≤_}
 use mathlib.Core.Path.{_≡_}
 use mathlib.Core.Logic.{_≢_}
-use mathlib.Core.Bool.{Bool, true, false, cond}
+use mathlib.Core.Bool.{true, cond}
 use mathlib.Core.List.{List, [], _∷_, _++_}
 use lib.Dec.{leb}
 use lib.ListN.{length}
 use Rattle.basis.specs.Front.{whole}
+use Rattle.basis.specs.Lists.{joined, AllWithin}
 use Rattle.basis.specs.Machine.{Dated, dated, says, refusedAfter, holding, saying}
 use Rattle.refusal.specs.Refusal.{segmentTooLong, reassemblyTooShort}
 use Rattle.types.specs.Read.{place}
 use Rattle.segment.specs.Header.{Form, headerLength}
-use Rattle.segment.specs.Segment.{segment, segmentLength, segmentAt}
+use Rattle.segment.specs.Segment.{WholeSegment, Run, no-segment, one-segment}
 use Rattle.frame.specs.Envelope.{Envelope, envelope}
 use Rattle.frame_decoder.specs.Reader.{Buffer, segmentBuffer, reassemblyBuffer, inRange}
 use Rattle.stream.specs.Meaning.{Lent, lent, Said, envelopeOf, held, Meaning, meaning}
@@ -37,37 +38,29 @@ unfoldable pub answered : ℕ → Buffer → ℕ → List Message → List (Date
 answered due buffer at [] = []
 answered due buffer at (e ∷ es) = dated due (envelopeOf buffer (place at (length (e .bytes))) (e .bytes) (e .reading)) ∷ answered due buffer (at + length (e .bytes)) es
 
--- ---- segments
-
--- a whole segment to which none of 2, 3 and 5 applies: its bytes, whether it is self-contained, and its payload
-pub record WholeSegment (form : Form) (bytes : List ℕ) (self : Bool) (payload : List ℕ) : Type 0 where
-  pub reads : segmentAt form bytes ≡ whole (segment self payload)
-  pub ends : length bytes ≡ segmentLength form (length payload)
-
--- segments one after the other that are not self-contained: their bytes, and their payloads joined
-pub data Run (form : Form) : List ℕ → List ℕ → Type 0 where
-  no-segment : Run form [] []
-  one-segment : {bytes payload others payloads : List ℕ} → WholeSegment form bytes false payload → Run form others payloads → Run form (bytes ++ others) (payload ++ payloads)
+-- ---- a run of segments
 
 -- Of envelopes one after the other, of which n bytes are there: those that are whole, the others, and how many of the bytes are left for these.
-unfoldable pub complete : ℕ → List Message → List Message
-complete n [] = []
-complete n (e ∷ es) = cond (leb (length (e .bytes)) n) (e ∷ complete (n - length (e .bytes)) es) []
+pub record Parted : Type 0 where
+  pub complete : List Message
+  pub others : List Message
+  pub unread : ℕ
 
-unfoldable pub others : ℕ → List Message → List Message
-others n [] = []
-others n (e ∷ es) = cond (leb (length (e .bytes)) n) (others (n - length (e .bytes)) es) (e ∷ es)
+abbrev pub parts : List Message → List Message → ℕ → Parted
+parts complete others unread = record { complete = complete; others = others; unread = unread }
 
-unfoldable pub unread : ℕ → List Message → ℕ
-unread n [] = n
-unread n (e ∷ es) = cond (leb (length (e .bytes)) n) (unread (n - length (e .bytes)) es) n
+unfoldable pub parted : ℕ → List Message → Parted
+parted n [] = parts [] [] n
+parted n (e ∷ es) =
+    let p : Parted = parted (n - length (e .bytes)) es in
+    cond (leb (length (e .bytes)) n) (parts (e ∷ p .complete) (p .others) (p .unread)) (parts [] (e ∷ es) n)
 
 -- 6.7, 6.9: envelopes of a run are answered with the segment that makes them whole, the first of each from the front of the reassembly buffer; so many bytes are pending before it
-abbrev pub runAnswered : {form : Form} {bytes payloads : List ℕ} → Run form bytes payloads → ℕ → ℕ → List Message → List (Dated Said)
+abbrev pub runAnswered : {form : Form} {segments : List (List ℕ)} {payloads : List ℕ} → Run form segments payloads → ℕ → ℕ → List Message → List (Dated Said)
 runAnswered no-segment taken pending es = []
 runAnswered (one-segment {bytes = bytes} {payload = payload} g run) taken pending es =
-    answered (taken + length bytes) reassemblyBuffer 0 (complete (pending + length payload) es)
-    ++ runAnswered run (taken + length bytes) (unread (pending + length payload) es) (others (pending + length payload) es)
+    let p : Parted = parted (pending + length payload) es in
+    answered (taken + length bytes) reassemblyBuffer 0 (p .complete) ++ runAnswered run (taken + length bytes) (p .unread) (p .others)
 
 -- ---- 10.1
 
@@ -77,8 +70,8 @@ pub data Legal (form : Form) : ℕ → List ℕ → List (Dated Said) → Type 0
   legal-alone : {taken : ℕ} {bytes payload stream : List ℕ} {es : List Message} {later : List (Dated Said)} → WholeSegment form bytes true payload → Envelopes payload es
       → Legal form (taken + length bytes) stream later
       → Legal form taken (bytes ++ stream) (answered (taken + length bytes) segmentBuffer (headerLength form) es ++ later)
-  legal-run : {taken : ℕ} {bytes payloads stream : List ℕ} {es : List Message} {later : List (Dated Said)} (run : Run form bytes payloads) → Envelopes payloads es
-      → Legal form (taken + length bytes) stream later → Legal form taken (bytes ++ stream) (runAnswered run taken 0 es ++ later)
+  legal-run : {taken : ℕ} {segments : List (List ℕ)} {payloads stream : List ℕ} {es : List Message} {later : List (Dated Said)} (run : Run form segments payloads) → Envelopes payloads es
+      → Legal form (taken + length (joined segments)) stream later → Legal form taken (joined segments ++ stream) (runAnswered run taken 0 es ++ later)
 
 -- exactly these, and nothing is held
 abbrev pub exactly : List (Dated Said) → Meaning
@@ -98,11 +91,7 @@ pub record Suffices (form : Form) (segment reassembly : ℕ) (stream : List ℕ)
   pub never : NeverShort (meaning (lent form segment reassembly) stream)
 
 -- the same in numbers: each segment fits the segment buffer, and the payloads of each run together the other
-abbrev pub RunFits : (z : Lent) {bytes payloads : List ℕ} → Run (z .form) bytes payloads → Type 0
-RunFits z no-segment = Unit {0}
-RunFits z (one-segment {payload = payload} g run) = (segmentLength (z .form) (length payload) ≤ z .segment) × RunFits z run
-
 abbrev pub Fits : (z : Lent) {taken : ℕ} {stream : List ℕ} {answers : List (Dated Said)} → Legal (z .form) taken stream answers → Type 0
 Fits z legal-end = Unit {0}
-Fits z (legal-alone {payload = payload} g v later) = (segmentLength (z .form) (length payload) ≤ z .segment) × Fits z later
-Fits z (legal-run {payloads = payloads} run v later) = RunFits z run × (length payloads ≤ z .reassembly) × Fits z later
+Fits z (legal-alone {bytes = bytes} g v later) = (length bytes ≤ z .segment) × Fits z later
+Fits z (legal-run {segments = segments} {payloads = payloads} run v later) = AllWithin (z .segment) segments × (length payloads ≤ z .reassembly) × Fits z later

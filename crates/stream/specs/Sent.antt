@@ -1,10 +1,11 @@
 -- Streams that the writers of this library wrote, call by call: docs/RULES.md, 7.5, section 8 and 11.1. Assumes nothing.
-use Prim.Native.Nat.{ℕ, _≤_, _<_}
+use Prim.Native.Nat.{ℕ, _≤_}
 use mathlib.Core.Path.{_≡_}
 use mathlib.Core.List.{List, [], _∷_, _++_}
-use lib.ListN.{length, take, drop}
+use lib.ListN.{length, take}
 use mir.Syntax.{w16}
 use mir.Val.{SFits}
+use Rattle.basis.specs.Lists.{joined, AllWithin}
 use Rattle.basis.specs.Machine.{Dated}
 use Rattle.types.specs.Answer.{got}
 use Rattle.types.specs.Write.{Wrote}
@@ -12,8 +13,8 @@ use Rattle.segment.specs.Header.{Form}
 use Rattle.frame.specs.Header.{Header}
 use Rattle.frame.specs.Envelope.{Envelope, idIn, bodyIn, warningsIn}
 use Rattle.frame.specs.Write.{Content, idPart, envelopeBytes, envelopeCheck, cleared, textsPart}
-use Rattle.frame_encoder.specs.Writer.{Writer, fresh, wrote, done, finish, piece}
-use Rattle.frame_encoder.specs.Runs.{Added}
+use Rattle.frame_encoder.specs.Writer.{Writer, fresh, wrote, done, finish}
+use Rattle.frame_encoder.specs.Runs.{Added, Split}
 use Rattle.stream.specs.Meaning.{Lent, Said, envelopeOf, leftoverOf}
 
 -- the fields of an envelope that were given to the envelope writer
@@ -34,12 +35,6 @@ pub data WrittenAll : List Given → List (List ℕ) → Type 0 where
   none-written : WrittenAll [] []
   one-written : {g : Given} {bytes : List ℕ} {gs : List Given} {others : List (List ℕ)} → Written g bytes → WrittenAll gs others → WrittenAll (g ∷ gs) (bytes ∷ others)
 
--- an envelope goes out in pieces, each a segment from where the one before ended, until nothing is left: what went out
-pub data InPieces (form : Form) : List ℕ → List ℕ → Type 0 where
-  all-out : InPieces form [] []
-  one-out : (out : List ℕ) {w : Writer} {end envelope others : List ℕ} {size taken : ℕ} → 0 < length envelope → piece (fresh form) out envelope ≡ done w (wrote size taken) end
-      → InPieces form (drop taken envelope) others → InPieces form envelope (take size end ++ others)
-
 -- what went out, and the fields of the envelopes given for it, in order
 pub data Sends (form : Form) : List ℕ → List Given → Type 0 where
   nothing-sent : Sends form [] []
@@ -47,21 +42,16 @@ pub data Sends (form : Form) : List ℕ → List Given → Type 0 where
   sends-packed : {w v : Writer} {gs later : List Given} {envelopes : List (List ℕ)} {out mid end others : List ℕ} {size taken : ℕ} → WrittenAll gs envelopes → Added (fresh form) out envelopes w mid
       → finish w mid ≡ done v (wrote size taken) end → Sends form others later → Sends form (take size end ++ others) (gs ++ later)
   -- one envelope in pieces
-  sends-pieces : {g : Given} {later : List Given} {envelope bytes others : List ℕ} → Written g envelope → InPieces form envelope bytes → Sends form others later
-      → Sends form (bytes ++ others) (g ∷ later)
+  sends-pieces : {g : Given} {later : List Given} {envelope others : List ℕ} {segments : List (List ℕ)} → Written g envelope → Split form envelope segments → Sends form others later
+      → Sends form (joined segments ++ others) (g ∷ later)
 
 -- ---- sizes that are enough for it
 
--- the segment buffer for each segment
-abbrev pub PiecesFit : (z : Lent) {envelope bytes : List ℕ} → InPieces (z .form) envelope bytes → Type 0
-PiecesFit z all-out = Unit {0}
-PiecesFit z (one-out out {size = size} some p later) = (size ≤ z .segment) × PiecesFit z later
-
--- and the reassembly buffer for each envelope that goes out in pieces
+-- the segment buffer for each segment, and the reassembly buffer for each envelope that goes out in pieces
 abbrev pub SendsFit : (z : Lent) {bytes : List ℕ} {gs : List Given} → Sends (z .form) bytes gs → Type 0
 SendsFit z nothing-sent = Unit {0}
 SendsFit z (sends-packed {size = size} ws added finished later) = (size ≤ z .segment) × SendsFit z later
-SendsFit z (sends-pieces {envelope = envelope} w ps later) = PiecesFit z ps × (length envelope ≤ z .reassembly) × SendsFit z later
+SendsFit z (sends-pieces {envelope = envelope} {segments = segments} w ps later) = AllWithin (z .segment) segments × (length envelope ≤ z .reassembly) × SendsFit z later
 
 -- ---- what comes back
 
