@@ -2,7 +2,6 @@
 use mathlib.Core.Path.{refl}
 use mathlib.Core.List.{[], _∷_}
 use mir.Syntax.{mut}
-use denote.Struct.Laws.{owed}
 use denote.Triple.Clauses.{atExit}
 use Rattle.basis.proofs.Thin.{struct-data, enum-data, fields, thin}
 use Rattle.frame_encoder.proofs.FrameEncoder as T
@@ -12,7 +11,7 @@ use Rattle.frame_encoder.proofs.Step.Laws as S′
 use Rattle.frame_encoder.proofs.Encoded as O
 use Rattle.frame_encoder.proofs.Encoded.Laws as O′
 use Rattle.frame_encoder.proofs.FrameEncoder.finalize_self_contained as step
-use Rattle.frame_encoder.proofs.FrameEncoder.finalize_self_contained.Symbol as step-def
+use Rattle.frame_encoder.proofs.FrameEncoder.finalize_self_contained.Key as step-key
 use Rattle.frame_encoder.proofs.FrameEncoder.finalize_self_contained.Met as step-thm
 use Rattle.frame_encoder.proofs.FrameEncoder.finalize_self_contained_mut.Key as key
 use Rattle.frame_encoder.proofs.FrameEncoder.finalize_self_contained_mut.Statement as stated
@@ -23,6 +22,6 @@ unfolding code.routine
 finalize-self-contained-mut-spec 𝓤 H 𝓜 𝓖 𝓡 =
     thin 𝓤 H 𝓜 𝓖 𝓡 (mut ∷ [])
     (fields S.the-type S′.the-laws S′.the-plain (struct-data T.the-type T′.the-laws T′.the-plain) (enum-data O.the-type O′.the-laws O′.the-plain tt) 0 1 refl refl
-    (λ r. r .encoder) (λ r. r .answer) (λ h u. record { encoder = h; answer = u }) (λ r. (refl, refl, refl)) (λ r is. (owed S.the-type S′.the-laws r _ is .0, owed S.the-type S′.the-laws r _ is .1 .0)))
+    (λ r. r .encoder) (λ r. r .answer) (λ h u. record { encoder = h; answer = u }) (λ r. (refl, refl, refl)) (λ r are. (are .0, are .1 .0)))
     (λ κs h a r ws. step.clauses 𝓤 H (𝓖 .A) (𝓜 .mem) (𝓡 .run) κs (h, a) .ensures tt r (atExit step.ended κs (h, a) (tt, ws)))
-    code.env key.name step-def.name step-def.routine (code.unfolded 𝓤 H 𝓜 𝓡) code.calls-frame-encoder·FrameEncoder·finalize-self-contained (step-thm.met 𝓤 H 𝓜 𝓖 𝓡)
+    code.env key.name step-key.name (code.unfolded 𝓤 H 𝓜 𝓡) (step-thm.met 𝓤 H 𝓜 𝓖 𝓡)

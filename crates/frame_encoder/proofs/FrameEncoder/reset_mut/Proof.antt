@@ -5,7 +5,7 @@ use Rattle.basis.proofs.Thin.{struct-data, state-alone, thin}
 use Rattle.frame_encoder.proofs.FrameEncoder as T
 use Rattle.frame_encoder.proofs.FrameEncoder.Laws as T′
 use Rattle.frame_encoder.proofs.FrameEncoder.reset as step
-use Rattle.frame_encoder.proofs.FrameEncoder.reset.Symbol as step-def
+use Rattle.frame_encoder.proofs.FrameEncoder.reset.Key as step-key
 use Rattle.frame_encoder.proofs.FrameEncoder.reset.Met as step-thm
 use Rattle.frame_encoder.proofs.FrameEncoder.reset_mut.Key as key
 use Rattle.frame_encoder.proofs.FrameEncoder.reset_mut.Statement as stated
@@ -16,4 +16,4 @@ unfolding code.routine
 reset-mut-spec 𝓤 H 𝓜 𝓖 𝓡 =
     thin 𝓤 H 𝓜 𝓖 𝓡 [] (state-alone (struct-data T.the-type T′.the-laws T′.the-plain))
     (λ κs h a r ws. step.clauses 𝓤 H (𝓖 .A) (𝓜 .mem) (𝓡 .run) κs (h, a) .ensures tt r (atExit step.ended κs (h, a) (tt, ws)))
-    code.env key.name step-def.name step-def.routine (code.unfolded 𝓤 H 𝓜 𝓡) code.calls-frame-encoder·FrameEncoder·reset (step-thm.met 𝓤 H 𝓜 𝓖 𝓡)
+    code.env key.name step-key.name (code.unfolded 𝓤 H 𝓜 𝓡) (step-thm.met 𝓤 H 𝓜 𝓖 𝓡)
