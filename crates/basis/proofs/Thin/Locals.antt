@@ -1,7 +1,7 @@
 -- For the walk of a thin function (`Thin.antt`): its locals, a row at a time, and the slices that it is lent and lends on. Each rule is one induction, so the walk is one for any number of slices.
 --     Blocks, Held, values, locals, placed        of a row of types: a block for each; a value that fits each; those values; the locals; the environment.        Rooms, Cells     the rooms, and the cells with the values, each with what lets its block be freed
 --     behind, Spots        the number of a local behind a row, and that a row is the locals i, suc i …        at-front, at-rear       a row at the front of an environment, and one behind it
---     alloc-all, pass-all, free-all, look-all     `alloc1`, `pass1`, `free1` and `look` for a row.        gone     a local is freed, whatever it holds.        at      the place of a local whose number is not written out
+--     alloc-all, pass-all, free-all, look-all     `alloc1`, `pass1`, `free1` and `look` for a row: each local of it.        gone     a local is freed, whatever it holds.        at      the place of a local whose number is not written out
 --     ms : List Mutability         the slices lent: `mut` is `&mut [u8]`, and `imm` is `&[u8]`
 --     slices, onward       the locals of the parameters, and those of what is made of each `&mut` to lend it on.        lends, lent        the statements that do, and the operands that are passed
 --     Pieces, taken, made      a pointer and a length for each; what the one row of locals holds, and the other.        lend-all, passes-on       the walk of the statements, and what the operands are: what was taken
@@ -116,9 +116,10 @@ module _ {M : Type 1} {𝓤 : URA M} {H : Heap 𝓤} {A : Atoms 𝓤} (K : Type 
       let more : Item 𝓤 = ‵ (Cells τs (bs .1) (vs .2)) in
       let one : Fml = fsep (fat fullShare τ (bs .0) zero (vs .0)) (fdies τ (bs .0)) in
       let apart : List (Item 𝓤) = ‵ (fat fullShare τ (bs .0) zero (vs .0)) ∷ ‵ (fdies τ (bs .0)) ∷ more ∷ Δ in
-      let cell : Reads K W apart τ (bs .0) zero (vs .0) = look t 0 refl in
-      (record { go = λ Kt h. via 𝓤 _ out (via 𝓤 _ (qed W (row ∷ Δ) ∵ fsplit ! $ fsplit ! $ done !) (cell .go Kt (via 𝓤 _ (qed W apart ∵ fjoin ! $ fjoin ! $ done !) (via 𝓤 _ back h)))) },
-      look-beside t τs (bs .1) (vs .2) (‵ one ∷ Δ) (via 𝓤 _ out (qed W (row ∷ Δ) ∵ fsplit ! $ move ! (1 ∷ []) $ done !)) (via 𝓤 _ (qed W (more ∷ ‵ one ∷ Δ) ∵ move ! (1 ∷ []) $ fjoin ! $ done !) back))
+      let cell : Reads K W apart τ (bs .0) zero (vs .0) = look t 0 refl in (
+        record { go = λ Kt h. via 𝓤 _ out (via 𝓤 _ (qed W (row ∷ Δ) ∵ fsplit ! $ fsplit ! $ done !) (cell .go Kt (via 𝓤 _ (qed W apart ∵ fjoin ! $ fjoin ! $ done !) (via 𝓤 _ back h)))) },
+        look-beside t τs (bs .1) (vs .2) (‵ one ∷ Δ) (via 𝓤 _ out (qed W (row ∷ Δ) ∵ fsplit ! $ move ! (1 ∷ []) $ done !)) (via 𝓤 _ (qed W (more ∷ ‵ one ∷ Δ) ∵ move ! (1 ∷ []) $ fjoin ! $ done !) back),
+      )
 
   pub look-all : K → (n : ℕ) (τs : List Ty) (bs : Blocks τs) (vs : Held τs) → nth 𝓤 H A n Γ ≡ ‵ (Cells τs bs vs) → ReadsAll τs bs vs
   look-all t n τs bs vs e =
@@ -170,6 +171,14 @@ made [] x = tt
 made (imm ∷ ms) x = made ms (x .3)
 made (mut ∷ ms) x = (vptr (x .0 .0) (x .0 .1), (tt, tt), (sliceVal (x .0) (x .1), slice-fits (x .0) erased mut (x .2), made ms (x .3)))
 
+module _ {M : Type 1} {𝓤 : URA M} {H : Heap 𝓤} {A : Atoms 𝓤} {K : Type 0} {W : Given 𝓤 H A} where
+  -- a parameter and what is made of it, out of the two rows, and back
+  apart : K → {a a′ P b b′ c c′ Q : Fml} {Γ : List (Item 𝓤)} {G : Goal 𝓤 H} → Step K W (‵ b ∷ ‵ c ∷ ‵ a ∷ ‵ P ∷ ‵ Q ∷ ‵ a′ ∷ ‵ b′ ∷ ‵ c′ ∷ Γ) G (‵ (fsep (fsep a a′) P) ∷ ‵ (fsep (fsep b b′) (fsep (fsep c c′) Q)) ∷ Γ) G
+  apart t = step (λ s. fsplit t $ fsplit t $ move t (3 ∷ []) $ fsplit t $ fsplit t $ move t (2 ∷ []) $ fsplit t $ fsplit t $ move t (3 ∷ 0 ∷ 5 ∷ 7 ∷ 2 ∷ 6 ∷ 4 ∷ 1 ∷ []) $ s)
+
+  together : K → {a a′ P b b′ c c′ Q : Fml} {Γ : List (Item 𝓤)} {G : Goal 𝓤 H} → Step K W (‵ (fsep (fsep a a′) P) ∷ ‵ (fsep (fsep b b′) (fsep (fsep c c′) Q)) ∷ Γ) G (‵ P ∷ ‵ Q ∷ ‵ b ∷ ‵ c ∷ ‵ a ∷ ‵ a′ ∷ ‵ b′ ∷ ‵ c′ ∷ Γ) G
+  together t = step (λ s. move t (3 ∷ 7 ∷ 1 ∷ []) $ fjoin t $ fjoin t $ move t (2 ∷ 5 ∷ 0 ∷ []) $ fjoin t $ fjoin t $ move t (2 ∷ 3 ∷ 1 ∷ []) $ fjoin t $ fjoin t $ s)
+
 module _ {M : Type 1} {𝓤 : URA M} {H : Heap 𝓤} {A : Atoms 𝓤} {K : Type 0} {W : Given 𝓤 H A} {E : Env 𝓤 H} where
   pub lend-all : {C : Calls 𝓤 H} {Λ : Loops 𝓤 H} {rest : Body} {q : Post 𝓤 H} → K
       → (ms : List Mutability) (x : Pieces ms) (n i j : ℕ) (bs : Blocks (slices n ms)) (cs : Blocks (onward ms)) → Spots 𝓤 H E i (slices n ms) bs → Spots 𝓤 H E j (onward ms) cs → {Γ : List (Item 𝓤)}
@@ -177,13 +186,11 @@ module _ {M : Type 1} {𝓤 : URA M} {H : Heap 𝓤} {A : Atoms 𝓤} {K : Type 
   lend-all t [] x n i j bs cs sp sq = step (λ s. s)
   lend-all t (imm ∷ ms) x n i j bs cs sp sq = step (λ s. fsplit t $ move t (1 ∷ 2 ∷ []) $ lend-all t ms (x .3) (suc n) (suc i) j (bs .1) cs (sp .1) sq $ move t (2 ∷ 0 ∷ []) $ fjoin t $ s)
   lend-all t (mut ∷ ms) x n i j bs cs sp sq = step (λ s.
-      fsplit t $ fsplit t $ move t (3 ∷ []) $ fsplit t $ fsplit t $ move t (2 ∷ []) $ fsplit t $ fsplit t $
-      -- [room for the slice; …; room for more; room for the pointer; …; the parameter; …; the other parameters]
-      assigns t (addr t (at t (sp .0) (fld t refl (hop t (look-in t 5 (sub t 0 refl (whole t))) (stop t))))) (at t (sq .0) (stop t)) (init t 3 refl (tt, tt)) $
-      assigns t (agg t (and-then t (load t (at t (sq .0) (stop t)) (look t 3 refl)) (and-then t (load t (at t (sp .0) (fld t refl (stop t))) (look-in t 5 (sub t 1 refl (whole t)))) (no-more t))))
-      (at t (sq .1 .0) (stop t)) (init t 0 refl (slice-fits (x .0) erased mut (x .2))) $
-      move t (7 ∷ 2 ∷ []) $ lend-all t ms (x .3) (suc n) (suc i) (suc (suc j)) (bs .1) (cs .1 .1) (sp .1) (sq .1 .1) $
-      move t (2 ∷ 3 ∷ 1 ∷ []) $ fjoin t $ fjoin t $ move t (2 ∷ 3 ∷ 0 ∷ []) $ fjoin t $ fjoin t $ move t (2 ∷ 3 ∷ 1 ∷ []) $ fjoin t $ fjoin t $ s)
+      -- [room for the pointer; room for the slice; the parameter; the other parameters; room for more; …]
+      apart t $ assigns t (addr t (at t (sp .0) (fld t refl (hop t (look-in t 2 (sub t 0 refl (whole t))) (stop t))))) (at t (sq .0) (stop t)) (init t 0 refl (tt, tt)) $
+      assigns t (agg t (and-then t (load t (at t (sq .0) (stop t)) (look t 0 refl)) (and-then t (load t (at t (sp .0) (fld t refl (stop t))) (look-in t 2 (sub t 1 refl (whole t)))) (no-more t))))
+      (at t (sq .1 .0) (stop t)) (init t 1 refl (slice-fits (x .0) erased mut (x .2))) $
+      move t (3 ∷ 4 ∷ []) $ lend-all t ms (x .3) (suc n) (suc i) (suc (suc j)) (bs .1) (cs .1 .1) (sp .1) (sq .1 .1) $ together t $ s)
 
   pub passes-on : {Γ : List (Item 𝓤)} → K → (ms : List Mutability) (x : Pieces ms) (n i j : ℕ) (bs : Blocks (slices n ms)) (cs : Blocks (onward ms)) → Spots 𝓤 H E i (slices n ms) bs → Spots 𝓤 H E j (onward ms) cs
       → ReadsAll K W Γ (slices n ms) bs (taken n ms x) → ReadsAll K W Γ (onward ms) cs (made ms x) → Opds K W Γ E (lent i j ms) (values (slices n ms) (taken n ms x))
