@@ -1,6 +1,5 @@
 // Notations.
 use crate::words;
-use refusal::Refusal;
 use types::Place;
 use types::ReadByte;
 use types::ReadBytes;
@@ -21,42 +20,38 @@ fn put_said(said: &mut [usize], kind: usize, a: usize, b: usize, next: usize) {
     words::put4(said, 0, kind, a, b, next);
 }
 
-fn put_refused(said: &mut [usize], why: Refusal) {
-    put_said(said, 0, words::number(why), 0, 0);
-}
-
 fn put_part(said: &mut [usize], answer: ReadPart) {
     match answer {
         ReadPart::Part(place, next) => put_said(said, 2, place.start, place.len, next),
-        ReadPart::Refused(why) => put_refused(said, why),
+        ReadPart::Refused(why) => words::put_refused(said, 0, why),
     }
 }
 
 fn read_byte(bytes: &[u8], at: usize, said: &mut [usize]) {
     match read::read_byte(bytes, at) {
         ReadByte::Value(x, next) => put_said(said, 1, x as usize, 0, next),
-        ReadByte::Refused(why) => put_refused(said, why),
+        ReadByte::Refused(why) => words::put_refused(said, 0, why),
     }
 }
 
 fn read_short(bytes: &[u8], at: usize, said: &mut [usize]) {
     match read::read_short(bytes, at) {
         ReadShort::Value(x, next) => put_said(said, 1, x as usize, 0, next),
-        ReadShort::Refused(why) => put_refused(said, why),
+        ReadShort::Refused(why) => words::put_refused(said, 0, why),
     }
 }
 
 fn read_int(bytes: &[u8], at: usize, said: &mut [usize]) {
     match read::read_int(bytes, at) {
         ReadInt::Value(x, next) => put_said(said, 1, bits32(x) as usize, 0, next),
-        ReadInt::Refused(why) => put_refused(said, why),
+        ReadInt::Refused(why) => words::put_refused(said, 0, why),
     }
 }
 
 fn read_long(bytes: &[u8], at: usize, said: &mut [usize]) {
     match read::read_long(bytes, at) {
         ReadLong::Value(x, next) => put_said(said, 1, bits64(x) as usize, 0, next),
-        ReadLong::Refused(why) => put_refused(said, why),
+        ReadLong::Refused(why) => words::put_refused(said, 0, why),
     }
 }
 
@@ -64,14 +59,14 @@ fn read_bytes(bytes: &[u8], at: usize, said: &mut [usize]) {
     match read::read_bytes(bytes, at) {
         ReadBytes::Null(next) => put_said(said, 3, 0, 0, next),
         ReadBytes::Part(place, next) => put_said(said, 2, place.start, place.len, next),
-        ReadBytes::Refused(why) => put_refused(said, why),
+        ReadBytes::Refused(why) => words::put_refused(said, 0, why),
     }
 }
 
 fn read_list(bytes: &[u8], at: usize, said: &mut [usize]) {
     match read::read_string_list(bytes, at) {
         ReadStrings::Strings(walk, next) => put_said(said, 4, walk.left as usize, walk.at, next),
-        ReadStrings::Refused(why) => put_refused(said, why),
+        ReadStrings::Refused(why) => words::put_refused(said, 0, why),
     }
 }
 
@@ -102,7 +97,7 @@ fn put_walked(said: &mut [usize], walked: Walked) {
     match walked {
         Walked::Text(place, walk) => put_text(said, place, walk),
         Walked::End(next) => put_said(said, 3, 0, 0, next),
-        Walked::Refused(why) => put_refused(said, why),
+        Walked::Refused(why) => words::put_refused(said, 0, why),
     }
 }
 
