@@ -47,7 +47,7 @@ fn put_body(said: &mut [usize], e: Envelope) {
     words::put4(
         said,
         10,
-        words::flag(e.traced),
+        e.traced as usize,
         left,
         e.warnings.at,
         e.body.start,
@@ -93,13 +93,6 @@ pub fn header(fields: &[usize]) -> Header {
     }
 }
 
-fn walk(left: usize, at: usize) -> Walk {
-    Walk {
-        left: (left % 0x1_0000) as u16,
-        at,
-    }
-}
-
 // An envelope of which only the parts count, from words as they are put above.
 fn envelope(said: &[usize]) -> Envelope {
     let fields = [0usize; 5];
@@ -107,7 +100,10 @@ fn envelope(said: &[usize]) -> Envelope {
         size: words::get(said, 4),
         header: header(&fields),
         traced: words::get(said, 10) == 1,
-        warnings: walk(words::get(said, 11), words::get(said, 12)),
+        warnings: Walk {
+            left: (words::get(said, 11) % 0x1_0000) as u16,
+            at: words::get(said, 12),
+        },
         body: Place {
             start: words::get(said, 13),
             len: words::get(said, 14),
@@ -207,7 +203,7 @@ fn put_phase(state: &mut [usize], phase: Phase) {
             filled,
             len,
             self_contained,
-        } => words::put4(state, 4, 1, filled, len, words::flag(self_contained)),
+        } => words::put4(state, 4, 1, filled, len, self_contained as usize),
         Phase::InSegment { len, at } => words::put4(state, 4, 2, len, at, 0),
         Phase::InReassembly { at } => words::put4(state, 4, 3, at, 0, 0),
         Phase::Stopped(why) => words::put4(state, 4, 4, why.number() as usize, 0, 0),

@@ -41,10 +41,6 @@ pub fn copy(out: &mut [u8], bytes: &[u8]) -> usize {
     i
 }
 
-pub fn flag(is: bool) -> usize {
-    if is { 1 } else { 0 }
-}
-
 // A refusal: the word that names it as one, and its number.
 pub fn put_refused(said: &mut [usize], name: usize, why: Refusal) {
     put4(said, 0, name, why.number() as usize, 0, 0);

@@ -181,7 +181,7 @@ fn put_header(said: &mut [usize], header: Header) {
         1,
         payload,
         uncompressed,
-        words::flag(header.self_contained),
+        header.self_contained as usize,
     );
 }
 
