@@ -80,8 +80,5 @@ fn with_header(line: &[u8], body: &[u8]) -> bool {
 }
 
 pub fn answer(line: &[u8], body: &[u8]) -> bool {
-    if is_asked(line) {
-        return with_header(line, body);
-    }
-    false
+    is_asked(line) && with_header(line, body)
 }
