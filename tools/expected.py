@@ -79,6 +79,21 @@ def take_counted(name, data, at):
     return start, end
 
 
+# The texts of a list as they are shown, the first twenty of them, and how the walk along them ends.
+def walk(data, left, at, show):
+    said = ""
+    for met in range(left):
+        try:
+            start, at = take_counted("string", data, at)
+        except Refused as why:
+            return f"{said} refused {why.args[0]}"
+        if met < 20:
+            said += f" {show(start, at)}"
+        if met == 20:
+            said += " ..."
+    return f"{said} end {at}"
+
+
 def counted(data, size):
     if len(data) > (2**16 - 1 if size == 2 else 2**31 - 1):
         raise Refused(NOT_WRITABLE)

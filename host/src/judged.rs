@@ -407,42 +407,53 @@ impl Reader {
     }
 
     pub fn held(&self) -> usize {
-        let words = self.words();
-        unsafe { judged_held(words.as_ptr(), words.len()) }
+        held(&self.words())
     }
 
     pub fn read(&mut self, segment: &mut [u8], reassembly: &mut [u8], piece: &[u8]) -> Heard {
-        let (mut words, mut said) = (self.words(), [0; 16]);
-        let taken = unsafe {
-            judged_read(
-                words.as_mut_ptr(),
-                words.len(),
-                segment.as_mut_ptr(),
-                segment.len(),
-                reassembly.as_mut_ptr(),
-                reassembly.len(),
-                piece.as_ptr(),
-                piece.len(),
-                said.as_mut_ptr(),
-                said.len(),
-            )
-        };
+        let mut words = self.words();
+        let heard = read(&mut words, segment, reassembly, piece);
         *self = Reader::from_words(words);
-        let answer = match said[0] {
-            0 => Answer::More,
-            1 => Answer::Envelope(
-                buffer(said[1]),
-                Place {
-                    start: said[2],
-                    len: said[3],
-                },
-                reading(&said),
-            ),
-            2 => Answer::Refused(said[1] as u8),
-            _ => Answer::Leftover(said[1]),
-        };
-        Heard { answer, taken }
+        heard
     }
+}
+
+/// What is held of a state in words. Words that are no state hold nothing.
+pub fn held(state: &[usize]) -> usize {
+    unsafe { judged_held(state.as_ptr(), state.len()) }
+}
+
+/// A call on a state in words. Words that are no state are answered by refusal 1, and all stays as it was.
+pub fn read(state: &mut [usize], segment: &mut [u8], reassembly: &mut [u8], piece: &[u8]) -> Heard {
+    let mut said = [0; 16];
+    let taken = unsafe {
+        judged_read(
+            state.as_mut_ptr(),
+            state.len(),
+            segment.as_mut_ptr(),
+            segment.len(),
+            reassembly.as_mut_ptr(),
+            reassembly.len(),
+            piece.as_ptr(),
+            piece.len(),
+            said.as_mut_ptr(),
+            said.len(),
+        )
+    };
+    let answer = match said[0] {
+        0 => Answer::More,
+        1 => Answer::Envelope(
+            buffer(said[1]),
+            Place {
+                start: said[2],
+                len: said[3],
+            },
+            reading(&said),
+        ),
+        2 => Answer::Refused(said[1] as u8),
+        _ => Answer::Leftover(said[1]),
+    };
+    Heard { answer, taken }
 }
 
 fn buffer(word: usize) -> Buffer {

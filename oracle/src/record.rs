@@ -1,4 +1,4 @@
-//! Writes a list of questions, and the Rust's answers to them in the words of the program `replay` (crates/replay/README.md). This library is asked only
+//! Writes a list of questions, and the Rust's answers to them in the words of the program `answers` (crates/answers/README.md). This library is asked only
 //! whether it hands on an envelope in a call in which the Rust errs, for such an envelope is lost there; these questions are left out.
 use crate::envelopes::{self, Faults};
 use crate::judge_writing::{self, Fields};

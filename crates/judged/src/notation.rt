@@ -1,6 +1,5 @@
 // Notations.
 use crate::words;
-use refusal::Refusal;
 use types::Place;
 use types::ReadByte;
 use types::ReadBytes;
@@ -17,61 +16,55 @@ use types::read;
 
 // Word 0: 0 a refusal (word 1 its number), 1 a value (word 1; signed ones as their bits), 2 a part (words 1 and 2: start and length), 3 null, 4 a
 // list (words 1 and 2: how many strings and where the first begins). Word 3 is where the notation ends.
-fn put_said(said: &mut [usize], kind: usize, a: usize, b: usize, next: usize) {
-    words::put4(said, 0, kind, a, b, next);
-}
-
-fn put_refused(said: &mut [usize], why: Refusal) {
-    put_said(said, 0, words::number(why), 0, 0);
-}
-
 fn put_part(said: &mut [usize], answer: ReadPart) {
     match answer {
-        ReadPart::Part(place, next) => put_said(said, 2, place.start, place.len, next),
-        ReadPart::Refused(why) => put_refused(said, why),
+        ReadPart::Part(place, next) => words::put4(said, 0, 2, place.start, place.len, next),
+        ReadPart::Refused(why) => words::put_refused(said, 0, why),
     }
 }
 
 fn read_byte(bytes: &[u8], at: usize, said: &mut [usize]) {
     match read::read_byte(bytes, at) {
-        ReadByte::Value(x, next) => put_said(said, 1, x as usize, 0, next),
-        ReadByte::Refused(why) => put_refused(said, why),
+        ReadByte::Value(x, next) => words::put4(said, 0, 1, x as usize, 0, next),
+        ReadByte::Refused(why) => words::put_refused(said, 0, why),
     }
 }
 
 fn read_short(bytes: &[u8], at: usize, said: &mut [usize]) {
     match read::read_short(bytes, at) {
-        ReadShort::Value(x, next) => put_said(said, 1, x as usize, 0, next),
-        ReadShort::Refused(why) => put_refused(said, why),
+        ReadShort::Value(x, next) => words::put4(said, 0, 1, x as usize, 0, next),
+        ReadShort::Refused(why) => words::put_refused(said, 0, why),
     }
 }
 
 fn read_int(bytes: &[u8], at: usize, said: &mut [usize]) {
     match read::read_int(bytes, at) {
-        ReadInt::Value(x, next) => put_said(said, 1, bits32(x) as usize, 0, next),
-        ReadInt::Refused(why) => put_refused(said, why),
+        ReadInt::Value(x, next) => words::put4(said, 0, 1, bits32(x) as usize, 0, next),
+        ReadInt::Refused(why) => words::put_refused(said, 0, why),
     }
 }
 
 fn read_long(bytes: &[u8], at: usize, said: &mut [usize]) {
     match read::read_long(bytes, at) {
-        ReadLong::Value(x, next) => put_said(said, 1, bits64(x) as usize, 0, next),
-        ReadLong::Refused(why) => put_refused(said, why),
+        ReadLong::Value(x, next) => words::put4(said, 0, 1, bits64(x) as usize, 0, next),
+        ReadLong::Refused(why) => words::put_refused(said, 0, why),
     }
 }
 
 fn read_bytes(bytes: &[u8], at: usize, said: &mut [usize]) {
     match read::read_bytes(bytes, at) {
-        ReadBytes::Null(next) => put_said(said, 3, 0, 0, next),
-        ReadBytes::Part(place, next) => put_said(said, 2, place.start, place.len, next),
-        ReadBytes::Refused(why) => put_refused(said, why),
+        ReadBytes::Null(next) => words::put4(said, 0, 3, 0, 0, next),
+        ReadBytes::Part(place, next) => words::put4(said, 0, 2, place.start, place.len, next),
+        ReadBytes::Refused(why) => words::put_refused(said, 0, why),
     }
 }
 
 fn read_list(bytes: &[u8], at: usize, said: &mut [usize]) {
     match read::read_string_list(bytes, at) {
-        ReadStrings::Strings(walk, next) => put_said(said, 4, walk.left as usize, walk.at, next),
-        ReadStrings::Refused(why) => put_refused(said, why),
+        ReadStrings::Strings(walk, next) => {
+            words::put4(said, 0, 4, walk.left as usize, walk.at, next);
+        }
+        ReadStrings::Refused(why) => words::put_refused(said, 0, why),
     }
 }
 
@@ -93,7 +86,7 @@ pub extern "C" fn judged_notation(kind: usize, bytes: &[u8], at: usize, said: &m
 }
 
 fn put_text(said: &mut [usize], place: Place, walk: Walk) {
-    put_said(said, 2, place.start, place.len, walk.at);
+    words::put4(said, 0, 2, place.start, place.len, walk.at);
     words::put(said, 4, walk.left as usize);
 }
 
@@ -101,8 +94,8 @@ fn put_text(said: &mut [usize], place: Place, walk: Walk) {
 fn put_walked(said: &mut [usize], walked: Walked) {
     match walked {
         Walked::Text(place, walk) => put_text(said, place, walk),
-        Walked::End(next) => put_said(said, 3, 0, 0, next),
-        Walked::Refused(why) => put_refused(said, why),
+        Walked::End(next) => words::put4(said, 0, 3, 0, 0, next),
+        Walked::Refused(why) => words::put_refused(said, 0, why),
     }
 }
 

@@ -9,6 +9,9 @@ use frame_decoder::Answer;
 use frame_decoder::Buffer;
 use frame_decoder::Phase;
 use frame_decoder::Reader;
+use frame_decoder::Step;
+use refusal::Numbered;
+use refusal::Refusal;
 use types::Place;
 use types::Walk;
 use types::number::bits16;
@@ -44,7 +47,7 @@ fn put_body(said: &mut [usize], e: Envelope) {
     words::put4(
         said,
         10,
-        words::flag(e.traced),
+        e.traced as usize,
         left,
         e.warnings.at,
         e.body.start,
@@ -68,7 +71,7 @@ pub extern "C" fn judged_parse(bytes: &[u8], said: &mut [usize]) {
             words::put(said, 0, 1);
             put_envelope(said, e);
         }
-        Reading::Refused(why) => words::put4(said, 0, 2, words::number(why), 0, 0),
+        Reading::Refused(why) => words::put_refused(said, 2, why),
     }
 }
 
@@ -90,13 +93,6 @@ pub fn header(fields: &[usize]) -> Header {
     }
 }
 
-fn walk(left: usize, at: usize) -> Walk {
-    Walk {
-        left: (left % 0x1_0000) as u16,
-        at,
-    }
-}
-
 // An envelope of which only the parts count, from words as they are put above.
 fn envelope(said: &[usize]) -> Envelope {
     let fields = [0usize; 5];
@@ -104,7 +100,10 @@ fn envelope(said: &[usize]) -> Envelope {
         size: words::get(said, 4),
         header: header(&fields),
         traced: words::get(said, 10) == 1,
-        warnings: walk(words::get(said, 11), words::get(said, 12)),
+        warnings: Walk {
+            left: (words::get(said, 11) % 0x1_0000) as u16,
+            at: words::get(said, 12),
+        },
         body: Place {
             start: words::get(said, 13),
             len: words::get(said, 14),
@@ -144,50 +143,85 @@ pub extern "C" fn judged_stream_part<'a>(
     words::copy(out, part)
 }
 
-// State: form, the two lengths, pending, then the phase: its name and up to three numbers.
-fn phase(state: &[usize]) -> Phase {
-    let a = words::get(state, 5);
-    let b = words::get(state, 6);
-    match words::get(state, 4) {
-        0 => Phase::Header { filled: a },
-        1 => Phase::Rest {
-            filled: a,
-            len: b,
-            self_contained: words::get(state, 7) == 1,
-        },
-        2 => Phase::InSegment { len: a, at: b },
-        3 => Phase::InReassembly { at: a },
-        _ => Phase::Stopped(words::refusal(a)),
+// State: form, the two lengths, pending, then the phase: its name and up to three numbers. Fewer than eight words are no state, nor are those in which
+// one stands for no form, for no phase, for no refusal, or neither for yes nor for no.
+enum Stated {
+    Reader(Reader),
+    Nothing,
+}
+
+fn in_phase(state: &[usize], phase: Phase) -> Stated {
+    Stated::Reader(Reader {
+        form: words::form(words::get(state, 0)),
+        segment_len: words::get(state, 1),
+        reassembly_len: words::get(state, 2),
+        pending: words::get(state, 3),
+        phase,
+    })
+}
+
+fn rest(state: &[usize], filled: usize, len: usize, is: usize) -> Stated {
+    if is > 1 {
+        return Stated::Nothing;
+    }
+    let self_contained = is == 1;
+    let phase = Phase::Rest {
+        filled,
+        len,
+        self_contained,
+    };
+    in_phase(state, phase)
+}
+
+fn stopped(state: &[usize], number: usize) -> Stated {
+    match refusal::of_number(number) {
+        Numbered::Stands(why) => in_phase(state, Phase::Stopped(why)),
+        Numbered::Nothing => Stated::Nothing,
     }
 }
 
-fn put_phase(state: &mut [usize], name: usize, a: usize, b: usize, is: bool) {
-    words::put4(state, 4, name, a, b, words::flag(is));
+fn reader(state: &[usize]) -> Stated {
+    if state.len() < 8 || words::get(state, 0) > 1 {
+        return Stated::Nothing;
+    }
+    let a = words::get(state, 5);
+    let b = words::get(state, 6);
+    match words::get(state, 4) {
+        0 => in_phase(state, Phase::Header { filled: a }),
+        1 => rest(state, a, b, words::get(state, 7)),
+        2 => in_phase(state, Phase::InSegment { len: a, at: b }),
+        3 => in_phase(state, Phase::InReassembly { at: a }),
+        4 => stopped(state, a),
+        _ => Stated::Nothing,
+    }
 }
 
-fn put_state(state: &mut [usize], reader: Reader) {
-    let form = reader.form;
-    let word = words::of_form(form);
-    words::put4(
-        state,
-        0,
-        word,
-        reader.segment_len,
-        reader.reassembly_len,
-        reader.pending,
-    );
-    let phase = reader.phase;
+fn put_phase(state: &mut [usize], phase: Phase) {
     match phase {
-        Phase::Header { filled } => put_phase(state, 0, filled, 0, false),
+        Phase::Header { filled } => words::put4(state, 4, 0, filled, 0, 0),
         Phase::Rest {
             filled,
             len,
             self_contained,
-        } => put_phase(state, 1, filled, len, self_contained),
-        Phase::InSegment { len, at } => put_phase(state, 2, len, at, false),
-        Phase::InReassembly { at } => put_phase(state, 3, at, 0, false),
-        Phase::Stopped(why) => put_phase(state, 4, words::number(why), 0, false),
+        } => words::put4(state, 4, 1, filled, len, self_contained as usize),
+        Phase::InSegment { len, at } => words::put4(state, 4, 2, len, at, 0),
+        Phase::InReassembly { at } => words::put4(state, 4, 3, at, 0, 0),
+        Phase::Stopped(why) => words::put4(state, 4, 4, why.number() as usize, 0, 0),
     }
+}
+
+fn put_state(state: &mut [usize], reader: Reader) {
+    let form = reader.form;
+    let phase = reader.phase;
+    words::put4(
+        state,
+        0,
+        words::of_form(form),
+        reader.segment_len,
+        reader.reassembly_len,
+        reader.pending,
+    );
+    put_phase(state, phase);
 }
 
 // Word 0: 0 more, 1 an envelope (words 1 to 3: buffer, start, whole length; then its reading), 2 a refusal, 3 leftover; of the last two word 1 is
@@ -199,27 +233,30 @@ fn put_answer(said: &mut [usize], answer: Answer) {
             words::put4(said, 0, 1, of_buffer(buffer), place.start, place.len);
             put_envelope(said, e);
         }
-        Answer::Refused(why) => words::put4(said, 0, 2, words::number(why), 0, 0),
+        Answer::Refused(why) => words::put_refused(said, 2, why),
         Answer::Leftover(n) => words::put4(said, 0, 3, n, 0, 0),
     }
 }
 
-fn reader(state: &[usize]) -> Reader {
-    Reader {
-        form: words::form(words::get(state, 0)),
-        segment_len: words::get(state, 1),
-        reassembly_len: words::get(state, 2),
-        pending: words::get(state, 3),
-        phase: phase(state),
+// Words that are no state hold nothing.
+#[no_mangle]
+pub extern "C" fn judged_held(state: &[usize]) -> usize {
+    match reader(state) {
+        Stated::Reader(reader) => reader.held(),
+        Stated::Nothing => 0,
     }
 }
 
-#[no_mangle]
-pub extern "C" fn judged_held(state: &[usize]) -> usize {
-    reader(state).held()
+fn put_step(state: &mut [usize], said: &mut [usize], step: Step) -> usize {
+    let next = step.reader;
+    put_state(state, next);
+    let heard = step.heard;
+    let answer = heard.answer;
+    put_answer(said, answer);
+    heard.taken
 }
 
-// One call. The answer is the number of bytes taken.
+// One call. The answer is the number of bytes taken. Words that are no state are answered by refusal 1 and stay.
 #[no_mangle]
 pub extern "C" fn judged_read(
     state: &mut [usize],
@@ -228,11 +265,11 @@ pub extern "C" fn judged_read(
     piece: &[u8],
     said: &mut [usize],
 ) -> usize {
-    let step = reader(state).read(segment, reassembly, piece);
-    let next = step.reader;
-    put_state(state, next);
-    let heard = step.heard;
-    let answer = heard.answer;
-    put_answer(said, answer);
-    heard.taken
+    match reader(state) {
+        Stated::Reader(reader) => put_step(state, said, reader.read(segment, reassembly, piece)),
+        Stated::Nothing => {
+            words::put_refused(said, 2, Refusal::Inadmissible);
+            0
+        }
+    }
 }

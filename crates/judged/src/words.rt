@@ -41,13 +41,9 @@ pub fn copy(out: &mut [u8], bytes: &[u8]) -> usize {
     i
 }
 
-pub fn flag(is: bool) -> usize {
-    if is { 1 } else { 0 }
-}
-
-// The number of a refusal.
-pub fn number(why: Refusal) -> usize {
-    why.number() as usize
+// A refusal: the word that names it as one, and its number.
+pub fn put_refused(said: &mut [usize], name: usize, why: Refusal) {
+    put4(said, 0, name, why.number() as usize, 0, 0);
 }
 
 // 1 is the long form, all else the short one.
@@ -62,28 +58,5 @@ pub fn of_form(form: Form) -> usize {
     match form {
         Form::Short => 0,
         Form::Long => 1,
-    }
-}
-
-// The refusal of a number, and the last one for any other.
-pub fn refusal(number: usize) -> Refusal {
-    match number {
-        1 => Refusal::Inadmissible,
-        2 => Refusal::HeaderCheckDiffers,
-        3 => Refusal::PayloadCompressed,
-        4 => Refusal::SegmentTooLong,
-        5 => Refusal::PayloadCheckDiffers,
-        6 => Refusal::UnexpectedSelfContained,
-        7 => Refusal::ReassemblyTooShort,
-        8 => Refusal::NegativeLength,
-        9 => Refusal::UnknownVersion,
-        10 => Refusal::UnknownOpcode,
-        11 => Refusal::TracingIdCutShort,
-        12 => Refusal::PastEnd,
-        13 => Refusal::NotUtf8,
-        14 => Refusal::OutputTooShort,
-        15 => Refusal::NotWritable,
-        16 => Refusal::EnvelopeDoesNotFit,
-        _ => Refusal::SegmentNotEmpty,
     }
 }

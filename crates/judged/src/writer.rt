@@ -4,6 +4,7 @@ use crate::words;
 use frame::write::write_envelope;
 use frame_encoder::Encoded;
 use frame_encoder::FrameEncoder;
+use frame_encoder::Step;
 use segment::Header;
 use segment::ReadHeader;
 use types::Written;
@@ -15,7 +16,7 @@ use types::write;
 fn put_written(said: &mut [usize], answer: Written) {
     match answer {
         Written::Next(next) => words::put4(said, 0, 1, next, 0, 0),
-        Written::Refused(why) => words::put4(said, 0, 0, words::number(why), 0, 0),
+        Written::Refused(why) => words::put_refused(said, 0, why),
     }
 }
 
@@ -116,8 +117,15 @@ fn put_encoder(state: &mut [usize], next: FrameEncoder) {
 fn put_encoded(said: &mut [usize], answer: Encoded) {
     match answer {
         Encoded::Wrote(size, taken) => words::put4(said, 0, 1, size, taken, 0),
-        Encoded::Refused(why) => words::put4(said, 0, 0, words::number(why), 0, 0),
+        Encoded::Refused(why) => words::put_refused(said, 0, why),
     }
+}
+
+fn put_step(state: &mut [usize], said: &mut [usize], step: Step) {
+    let next = step.encoder;
+    let answer = step.answer;
+    put_encoder(state, next);
+    put_encoded(said, answer);
 }
 
 #[no_mangle]
@@ -144,19 +152,13 @@ pub extern "C" fn judged_add(
     said: &mut [usize],
 ) {
     let step = encoder(state).add_envelope(out, envelope);
-    let next = step.encoder;
-    let answer = step.answer;
-    put_encoder(state, next);
-    put_encoded(said, answer);
+    put_step(state, said, step);
 }
 
 #[no_mangle]
 pub extern "C" fn judged_finish(state: &mut [usize], out: &mut [u8], said: &mut [usize]) {
     let step = encoder(state).finalize_self_contained(out);
-    let next = step.encoder;
-    let answer = step.answer;
-    put_encoder(state, next);
-    put_encoded(said, answer);
+    put_step(state, said, step);
 }
 
 #[no_mangle]
@@ -167,10 +169,7 @@ pub extern "C" fn judged_piece(
     said: &mut [usize],
 ) {
     let step = encoder(state).finalize_non_self_contained(out, envelope);
-    let next = step.encoder;
-    let answer = step.answer;
-    put_encoder(state, next);
-    put_encoded(said, answer);
+    put_step(state, said, step);
 }
 
 fn put_header(said: &mut [usize], header: Header) {
@@ -182,7 +181,7 @@ fn put_header(said: &mut [usize], header: Header) {
         1,
         payload,
         uncompressed,
-        words::flag(header.self_contained),
+        header.self_contained as usize,
     );
 }
 
@@ -192,6 +191,6 @@ pub extern "C" fn judged_header(long: usize, bytes: &[u8], said: &mut [usize]) {
     match segment::read_header(words::form(long), bytes) {
         ReadHeader::Incomplete => words::put(said, 0, 0),
         ReadHeader::Whole(header) => put_header(said, header),
-        ReadHeader::Refused(why) => words::put4(said, 0, 2, words::number(why), 0, 0),
+        ReadHeader::Refused(why) => words::put_refused(said, 2, why),
     }
 }

@@ -183,8 +183,7 @@ impl Scene {
             }
             "payload" => (Phase::InSegment { len: a, at: b }, kept),
             "joined" => (Phase::InReassembly { at: a }, b),
-            // Every number past the refusals stands for the last one.
-            "stopped" => (Phase::Stopped(a.min(255) as u8), b),
+            "stopped" => (Phase::Stopped(u8::try_from(a).ok()?), b),
             _ => return None,
         };
         (self.reader.phase, self.reader.pending) = (phase, pending);

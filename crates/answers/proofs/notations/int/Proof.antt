@@ -1,11 +1,11 @@
--- `replay::notations::int` is safe: what fits 32 bits fits 64. Assumes nothing.
+-- `answers::notations::int` is safe: what fits 32 bits fits 64. Assumes nothing.
 use borrow.Author.Needs.{needs}
 use native.Mathlib.Omega.{arith}
 use mir.Syntax.{w32}
 use mir.Val.{SFits}
 use mir.ValLaws.{toZ-ofZ}
-use Rattle.replay.proofs.notations.int.Statement.{statement}
-use Rattle.replay.proofs.notations.int.Tie as tie
+use Rattle.answers.proofs.notations.int.Statement.{statement}
+use Rattle.answers.proofs.notations.int.Tie as tie
 
 pub int-spec : {M : Type 1} → statement M
 int-spec =

@@ -1,10 +1,10 @@
--- `replay::streams::use_up` is safe and ends: the turns fall, and no call changes a buffer's length. Assumes nothing.
+-- `answers::streams::use_up` is safe and ends: the turns fall, and no call changes a buffer's length. Assumes nothing.
 use mathlib.Core.Path.{_≡_}
 use borrow.Author.Needs.{needs}
 use native.Mathlib.Omega.{arith}
 use lib.ListN.{length}
-use Rattle.replay.proofs.streams.use_up.Statement.{statement}
-use Rattle.replay.proofs.streams.use_up.Tie as tie
+use Rattle.answers.proofs.streams.use_up.Statement.{statement}
+use Rattle.answers.proofs.streams.use_up.Tie as tie
 
 abbrev Inv-loop : tie.InvT-loop
 Inv-loop cut segment₀ reassembly₀ bytes reader₀ cursor₀ turns₀ segment reassembly reader cursor turns =

@@ -1,9 +1,9 @@
--- `replay::answer_all` is safe and ends: each turn goes past a line's end. Assumes nothing.
+-- `answers::answer_all` is safe and ends: each turn goes past a line's end. Assumes nothing.
 use Prim.Native.Nat.{_-_}
 use native.Mathlib.Omega.{arith}
 use lib.ListN.{length}
-use Rattle.replay.proofs.answer_all.Statement.{statement}
-use Rattle.replay.proofs.answer_all.Tie as tie
+use Rattle.answers.proofs.answer_all.Statement.{statement}
+use Rattle.answers.proofs.answer_all.Tie as tie
 
 abbrev Inv-loop : tie.InvT-loop
 Inv-loop input start₀ start = Unit

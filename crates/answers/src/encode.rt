@@ -10,22 +10,12 @@ use types::number;
 
 // The words of a header are such, and the name is this case's.
 fn is_asked(line: &[u8]) -> bool {
-    if !words::same(words::field(line, b' ', 0), b"encode") {
-        return false;
-    }
-    if 255 < asked::number(line, 1) {
-        return false;
-    }
-    if 1 < words::index(b"req rsp", words::field(line, b' ', 2)) {
-        return false;
-    }
-    if 255 < asked::hex(line, 3) {
-        return false;
-    }
-    if 65_535 < asked::bits(line, 4) {
-        return false;
-    }
-    asked::hex(line, 5) < 256
+    words::same(words::field(line, b' ', 0), b"encode")
+        && asked::number(line, 1) < 256
+        && words::index(b"req rsp", words::field(line, b' ', 2)) < 2
+        && asked::hex(line, 3) < 256
+        && asked::bits(line, 4) < 65_536
+        && asked::hex(line, 5) < 256
 }
 
 fn byte(n: usize) -> u8 {
@@ -90,8 +80,5 @@ fn with_header(line: &[u8], body: &[u8]) -> bool {
 }
 
 pub fn answer(line: &[u8], body: &[u8]) -> bool {
-    if is_asked(line) {
-        return with_header(line, body);
-    }
-    false
+    is_asked(line) && with_header(line, body)
 }

@@ -1,9 +1,9 @@
--- `replay::envelope::walk` is safe and ends: the texts are counted. Assumes nothing.
+-- `answers::envelope::walk` is safe and ends: the texts are counted. Assumes nothing.
 use Prim.Native.Nat.{_-_}
 use borrow.Author.Needs.{needs}
 use native.Mathlib.Omega.{arith}
-use Rattle.replay.proofs.envelope.walk.Statement.{statement}
-use Rattle.replay.proofs.envelope.walk.Tie as tie
+use Rattle.answers.proofs.envelope.walk.Statement.{statement}
+use Rattle.answers.proofs.envelope.walk.Tie as tie
 
 abbrev Inv-loop : tie.InvT-loop
 Inv-loop bytes at₀ met₀ at met = Unit

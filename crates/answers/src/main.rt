@@ -15,13 +15,7 @@ mod writes;
 
 // Each list of names is short, so that no function has many cases.
 fn answer_bytes(name: &[u8], bytes: &[u8]) -> bool {
-    if envelope::answer(name, bytes) {
-        return true;
-    }
-    if notations::answer(name, bytes) {
-        return true;
-    }
-    writes::answer(name, bytes)
+    envelope::answer(name, bytes) || notations::answer(name, bytes) || writes::answer(name, bytes)
 }
 
 fn answer_three(line: &[u8], bytes: &[u8]) -> bool {
