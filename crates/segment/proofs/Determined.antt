@@ -39,7 +39,7 @@ pub inner-number-determined : Determined inner-numbers.Post
 inner-number-determined = record { same = λ κs a r s e f p q. p .0 ∙ sym (q .0) }
 
 pub put-number-determined : DeterminedAs (λ κs r e. e .0 .now) puts-number.Post
-put-number-determined = by-sight (λ κs r e. e .0 .now) (λ κs a. put (a .0 .now) (a .1 .0) (leDigits (a .1 .1 .0) (a .1 .1 .1 .0)))
+put-number-determined = by-sight _ (λ κs a. put (a .0 .now) (a .1 .0) (leDigits (a .1 .1 .0) (a .1 .1 .1 .0)))
 
 pub put-header-determined : DeterminedAs (λ κs r e. e .0 .now) puts-header.Post
-put-header-determined = by-sight (λ κs r e. e .0 .now) (λ κs a. put (a .0 .now) 0 (headerBytes (paperForm (a .1 .0)) (paperHeader (a .1 .1 .0))))
+put-header-determined = by-sight _ (λ κs a. put (a .0 .now) 0 (headerBytes (paperForm (a .1 .0)) (paperHeader (a .1 .1 .0))))
