@@ -11,8 +11,7 @@ use mir.Val.{toZ}
 use Rattle.refusal.specs.Refusal.{Refusal}
 use Rattle.types.specs.Answer.{got}
 use Rattle.types.specs.Number.{be, part}
-use Rattle.types.specs.Along.{Walks}
-use Rattle.types.specs.Read.{Place, Strings, strings, natural, stringsAt, textsIn, stringListAt, textsOf}
+use Rattle.types.specs.Read.{Place, Strings, strings, natural, stringsAt, stringListAt, textsOf}
 use Rattle.types.proofs.Found.{got-value}
 use Rattle.types.proofs.Steady.{part-same, appended, steady-string-list}
 use Rattle.types.proofs.Walking.{walk-read, list-strings}

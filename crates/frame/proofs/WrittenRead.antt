@@ -25,7 +25,7 @@ use Rattle.types.proofs.Reading.{natural-some}
 use Rattle.frame.specs.Header.{Header, headerOf, flag, hasId, hasWarnings, knownVersion}
 use Rattle.basis.specs.Front.{whole}
 use Rattle.frame.specs.Envelope.{declared, sizeOf, Envelope, envelopeWith, afterId, warningsAt, within, inside, envelope, idIn, bodyIn, warningsIn}
-use Rattle.frame.specs.Write.{Content, idPart, warningsPart, tailBytes, clearedFlags, headerBytes, envelopeBytes, envelopeCheck, cleared, textsPart}
+use Rattle.frame.specs.Write.{Content, idPart, warningsPart, tailBytes, headerBytes, envelopeBytes, envelopeCheck, cleared, textsPart}
 use Rattle.frame.specs.ThereAndBack.{ReadBack}
 use Rattle.frame.proofs.Cases.{fits, size-is, read, within-is, warnings-there, warnings-none, envelope-inside}
 use Rattle.frame.proofs.Checked.{Fits, fields-fit, version-small, list-there, list-none, check-there, tail-length}

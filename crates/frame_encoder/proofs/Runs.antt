@@ -8,7 +8,6 @@ use native.Mathlib.Omega.{arith}
 use borrow.Author.Tests.{le-leb, eq-eqb}
 use lib.ListN.{length, take, drop, length-append, take-append-drop, length-drop}
 use lib.Seq.{length-take-le}
-use Rattle.basis.specs.Front.{whole}
 use Rattle.refusal.specs.Refusal.{Refusal, inadmissible, outputTooShort, segmentNotEmpty}
 use Rattle.types.specs.Number.{part}
 use Rattle.types.specs.Write.{put, Check, fine, against, joined}
@@ -16,7 +15,7 @@ use Rattle.types.proofs.Put.{put-none, put-put, length-put, demanded}
 use Rattle.types.specs.ThereAndBack.{Holds}
 use Rattle.types.proofs.Holds.{holds-put}
 use Rattle.segment.specs.Header.{Form, headerLength}
-use Rattle.segment.specs.Segment.{maxPayload, segmentLength, segmentBytes, segment, segmentAt}
+use Rattle.segment.specs.Segment.{maxPayload, segmentLength, segmentBytes}
 use Rattle.segment.proofs.WrittenRead.{segment-back}
 use Rattle.frame_encoder.specs.Writer.{Writer, writer, fresh, Reply, wrote, refused, Done, done, unless, addCheck, add, finishCheck, finish, pieceOf, pieceCheck, piece}
 use Rattle.frame_encoder.specs.Runs.{Added, none-added, one-added, Split, all-sent, one-sent, Sent, Joins, nothing, behind}

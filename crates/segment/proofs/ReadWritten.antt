@@ -1,5 +1,5 @@
 -- A header or a segment that was read, and whose unused bits are 0, is written back to its bytes. Assumes nothing.
-use Prim.Native.Nat.{ℕ, _+_, _≤_, _<_}
+use Prim.Native.Nat.{ℕ, _+_, _≤_}
 use mathlib.Core.Path.{_≡_, refl, sym, ap, ap₂, _∙_, subst}
 use mathlib.Core.Bool.{true}
 use mathlib.Core.List.{List, _++_}
@@ -19,7 +19,7 @@ use Rattle.segment.specs.LittleEndian.{le, leDigits}
 use Rattle.segment.specs.Header.{Form, Header, header, numberLength, checkLength, headerLength, numberOf, headerNumber, headerBytes}
 use Rattle.segment.specs.Segment.{trailerLength, trailerBytes, segmentBytes, checked, headerAt, Segment, segment, segmentLength, payloadAt, segmentAt}
 use Rattle.segment.proofs.LittleEndian.{digits-le}
-use Rattle.segment.specs.ThereAndBack.{usedBits, UnusedZero}
+use Rattle.segment.specs.ThereAndBack.{UnusedZero}
 use Rattle.segment.proofs.HeaderBits.{number-forth}
 use Rattle.segment.proofs.Cases.{fieldsAt, Headers, head-cut, head-differs, head-compressed, head-good, header-case, payloadIn, Payloads, payload-cut, payload-differs, payload-good, payload-case}
 
