@@ -33,15 +33,16 @@ header-length f h =
 
 module _ (f : Form) (h : Header) (out : List ℕ) (room : headerLength f ≤ length out) where
   -- what stands there once the number is written
-  pub number-stands : {m : List ℕ} → m ≡ put out 0 (headerNumber f h) → take (numberLength f) m ≡ headerNumber f h
+  number-stands : {m : List ℕ} → m ≡ put out 0 (headerNumber f h) → take (numberLength f) m ≡ headerNumber f h
   number-stands e =
       let l : length (headerNumber f h) ≡ numberLength f = number-length f h in
       ap₂ (λ (k : ℕ) (s : List ℕ). take k s) (sym l) e ∙ holds-put out 0 (headerNumber f h) (omega (arith, zero-add (length (headerNumber f h)))) .is
 
-  pub header-laid : {check : ℕ} {m l : List ℕ} → m ≡ put out 0 (headerNumber f h) → check ≡ crc24 (take (numberLength f) m)
-      → l ≡ put m (numberLength f) (leDigits checkLength check) → l ≡ put out 0 (headerBytes f h)
-  unfolding headerBytes
-  header-laid {check} {m} p q r =
+  pub header-laid : {n x check : ℕ} {m l : List ℕ} → n ≡ numberLength f → x ≡ numberOf f h → m ≡ put out 0 (leDigits n x) → check ≡ crc24 (take n m)
+      → l ≡ put m n (leDigits checkLength check) → l ≡ put out 0 (headerBytes f h)
+  unfolding headerBytes headerNumber
+  header-laid {m = m} len num p q r =
       let k : length (leDigits checkLength (crc24 (headerNumber f h))) ≡ checkLength = length-le checkLength (crc24 (headerNumber f h)) in
-      put-then out 0 (headerNumber f h) (leDigits checkLength (crc24 (headerNumber f h))) (numberLength f) (number-length f h) (omega (arith, zero-add (numberLength f))) p
-      (r ∙ ap₂ (λ (i c : ℕ). put m i (leDigits checkLength c)) (sym (zero-add (numberLength f))) (q ∙ ap crc24 (number-stands p)))
+      let first : m ≡ put out 0 (headerNumber f h) = p ∙ ap₂ (λ (n x : ℕ). put out 0 (leDigits n x)) len num in
+      put-then out 0 (headerNumber f h) (leDigits checkLength (crc24 (headerNumber f h))) (numberLength f) (number-length f h) (omega (arith, zero-add (numberLength f))) first
+      (r ∙ ap₂ (λ (i c : ℕ). put m i (leDigits checkLength c)) (len ∙ sym (zero-add (numberLength f))) (q ∙ ap (λ (n : ℕ). crc24 (take n m)) len ∙ ap crc24 (number-stands first)))
