@@ -1,4 +1,4 @@
--- An envelope that was written is read back as the fields that were given, wherever it stands and whatever follows it. Assumes nothing.
+-- An envelope that was written is read back as the fields that were given, whatever follows it. Assumes nothing.
 use Prim.Native.Nat.{ℕ, _+_, _*_, _-_, _/_, _%_, _≤_, _<_}
 use mathlib.Core.Path.{_≡_, refl, sym, ap, ap₂, _∙_, subst}
 use mathlib.Core.Bool.{Bool, true, false, cond, _&&_}
