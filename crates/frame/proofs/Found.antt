@@ -43,14 +43,14 @@ module _ (s t : List ℕ) (hs : 9 ≤ length s) (ht : 9 ≤ length t) (same : ta
 
 -- of the bytes of an envelope, and of these with others behind
 module _ (s : List ℕ) (n : ℕ) (nine : 9 ≤ n) (room : n ≤ length s) where
-  length-front : length (take n s) ≡ n
-  length-front = length-take-le n s room
+  front-long : 9 ≤ length (take n s)
+  front-long = omega (arith, length-take-le n s room)
 
   pub front-declared : declared (take n s) ≡ declared s
-  front-declared = same-declared s (take n s) (omega arith) (omega (arith, length-front)) (take-take 9 n s nine)
+  front-declared = same-declared s (take n s) (omega arith) front-long (take-take 9 n s nine)
 
   pub front-header : headerOf (take n s) ≡ headerOf s
-  front-header = same-header s (take n s) (omega arith) (omega (arith, length-front)) (take-take 9 n s nine)
+  front-header = same-header s (take n s) (omega arith) front-long (take-take 9 n s nine)
 
 module _ (s q : List ℕ) (nine : 9 ≤ length s) where
   long : 9 ≤ length (s ++ q)

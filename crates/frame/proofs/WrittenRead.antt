@@ -56,7 +56,7 @@ module _ (h : Header) (n : ℕ) (q : List ℕ) (version : knownVersion (h .versi
 
   pub header-back : headerOf (headerBytes h n ++ q) ≡ cleared h
   unfolding headerOf headerBytes digits cleared
-  header-back = simp (by-seven (h .response), high (h .response), within-five, number)
+  header-back = simp (by-seven (h .response), high (h .response), within-five, stream-back)
     where
       by-seven : (t : Bool) → (h .version + cond t 128 0) % 128 ≡ h .version
       by-seven true = omega (arith, small)
@@ -69,8 +69,8 @@ module _ (h : Header) (n : ℕ) (q : List ℕ) (version : knownVersion (h .versi
       within-five : h .flags / 2 * 2 % 32 ≡ h .flags / 2 * 2
       within-five = omega (arith, flags)
 
-      number : toZ w16 (be (digits 2 (ofZ w16 (h .stream)))) ≡ h .stream
-      number = ap (toZ w16) (be-digits-fit 2 (ofZ w16 (h .stream)) (ofZ-fits w16 (h .stream) stream .fits)) ∙ toZ-ofZ w16 (h .stream) stream
+      stream-back : toZ w16 (be (digits 2 (ofZ w16 (h .stream)))) ≡ h .stream
+      stream-back = ap (toZ w16) (be-digits-fit 2 (ofZ w16 (h .stream)) (ofZ-fits w16 (h .stream) stream .fits)) ∙ toZ-ofZ w16 (h .stream) stream
 
 pub declared-back : (h : Header) (n : ℕ) (q : List ℕ) → n < 2147483648 → declared (headerBytes h n ++ q) ≡ some n
 unfolding declared headerBytes digits

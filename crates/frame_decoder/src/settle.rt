@@ -26,7 +26,7 @@ use segment::Header;
 use segment::ReadHeader;
 use segment::TRAILER_LEN;
 use segment::header_len;
-use segment::inner::number;
+use segment::inner::read_number;
 use segment::read_header;
 use types::Place;
 use types::inner::put_bytes;
@@ -164,7 +164,7 @@ fn payload_holds(segment: &[u8], start: usize, len: usize) -> bool
 {
     let end = start + len;
     let computed = crc32(&segment[start..end]);
-    let read = number(segment, end, TRAILER_LEN);
+    let read = read_number(segment, end, TRAILER_LEN);
     read == computed as u64
 }
 

@@ -11,7 +11,7 @@ use Rattle.crc.specs.Check32.{crc32}
 use Rattle.types.specs.Number.{part}
 use Rattle.types.specs.Write.{put}
 use Rattle.types.proofs.BigEndian.{length-part}
-use Rattle.types.proofs.Put.{length-front, length-put, put-then}
+use Rattle.types.proofs.Put.{length-to-end, length-put, put-then}
 use Rattle.types.specs.ThereAndBack.{Holds}
 use Rattle.types.proofs.Holds.{holds-part, holds-put, put-same}
 use Rattle.segment.specs.LittleEndian.{leDigits}
@@ -24,7 +24,7 @@ use Rattle.segment.proofs.HeaderLaid.{header-length}
 pub drop-put : (out : List ℕ) (at : ℕ) (a : List ℕ) (from : ℕ) → at + length a ≤ from → at + length a ≤ length out → drop from (put out at a) ≡ drop from out
 unfolding put
 drop-put out at a from h room =
-    let f : length (take at out ++ a) ≡ at + length a = length-front out at a (omega arith) in
+    let f : length (take at out ++ a) ≡ at + length a = length-to-end out at a (omega arith) in
     let j : ℕ = from - (at + length a) in
     let e : at + length a + j ≡ from = omega arith in
     ap (λ (k : ℕ). drop k (put out at a)) (sym e)

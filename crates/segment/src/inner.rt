@@ -19,7 +19,7 @@ fn wide(x: u8) -> u64
 }
 
 // The number of the n bytes from at on, the last byte first.
-pub fn number(bytes: &[u8], at: usize, n: usize) -> u64
+pub fn read_number(bytes: &[u8], at: usize, n: usize) -> u64
     requires { ⌜ (n ≤ 8) × (at + n ≤ length (now bytes)) ⌝ }
     ensures { λ r. ⌜ (r ≡ le (part (now (bytes .entry)) at n)) × (r < 256 ^ n) ⌝ }
 {
@@ -53,7 +53,7 @@ pub fn put_header(out: &mut [u8], form: Form, header: Header)
     ensures { λ _. ⌜ now (out .exit) ≡ put (now (out .entry)) 0 (headerBytes (paperForm form) (paperHeader header)) ⌝ }
 {
     let n = crate::number_len(form);
-    let x = crate::number(form, header);
+    let x = crate::header_number(form, header);
     put_number(out, 0, n, x);
     let check = crc24(&out[..n]);
     put_number(out, n, CHECK_LEN, check as u64);

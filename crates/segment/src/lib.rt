@@ -3,7 +3,7 @@ ghost use mathlib.Core.Path.{_≡_};
 ghost use mathlib.Core.Bool.{cond};
 ghost use Prim.Native.Nat.{_≤_};
 ghost use lib.ListN.{length};
-ghost use Rattle.segment.specs.Header.{numberLength, headerLength, selfWeight, uncompressedOf, uncompressedPart, fieldsOf, numberOf};
+ghost use Rattle.segment.specs.Header.{numberLength, headerLength, selfWeight, uncompressedOf, uncompressedPart, fieldsOf, headerNumber};
 ghost use Rattle.segment.specs.Segment.{checked, headerAt};
 ghost use Rattle.segment.specs.Paper.{paperForm, paperHeader, paperReadHeader};
 use crc::crc24;
@@ -109,8 +109,8 @@ fn self_part(form: Form, self_contained: bool) -> u64
 }
 
 // The number of a header with these fields; unused bits are 0, and of a length the lowest 17 bits count.
-pub fn number(form: Form, header: Header) -> u64
-    ensures { λ r. ⌜ r ≡ numberOf (paperForm form) (paperHeader header) ⌝ }
+pub fn header_number(form: Form, header: Header) -> u64
+    ensures { λ r. ⌜ r ≡ headerNumber (paperForm form) (paperHeader header) ⌝ }
 {
     let payload = header.payload as u64 % LENGTHS;
     let uncompressed = uncompressed_part(form, header.uncompressed);
@@ -124,7 +124,7 @@ fn check_holds(form: Form, bytes: &[u8]) -> bool
     ensures { λ r. ⌜ r ≡ checked (paperForm form) (now (bytes .entry)) ⌝ }
 {
     let n = number_len(form);
-    let read = inner::number(bytes, n, CHECK_LEN);
+    let read = inner::read_number(bytes, n, CHECK_LEN);
     let computed = crc24(&bytes[..n]);
     read == computed as u64
 }
@@ -137,7 +137,7 @@ pub fn read_header(form: Form, bytes: &[u8]) -> ReadHeader
         return ReadHeader::Incomplete;
     }
     if check_holds(form, bytes) {
-        let x = inner::number(bytes, 0, number_len(form));
+        let x = inner::read_number(bytes, 0, number_len(form));
         let header = fields(form, x);
         if header.uncompressed == 0 {
             return ReadHeader::Whole(header);

@@ -20,7 +20,7 @@ use Rattle.types.specs.declared.Written.{Written}
 use Rattle.types.proofs.Told.{byte-told, short-told, int-told, long-told, part-told, bytes-told, strings-told, walked-told, writable-told, written-told}
 use Rattle.types.proofs.part.Reads as hands
 use Rattle.types.proofs.inner.room.Reads as has-room
-use Rattle.types.proofs.inner.number.Reads as numbers
+use Rattle.types.proofs.inner.read_number.Reads as reads-number
 use Rattle.types.proofs.inner.put_number.Reads as puts-number
 use Rattle.types.proofs.inner.put_bytes.Reads as puts-bytes
 use Rattle.types.proofs.inner.put_counted.Reads as puts-counted
@@ -185,13 +185,13 @@ write-null-determined = by-writing bytes (λ κs v. none)
 pub write-string-list-determined : DeterminedWriter writes-list.Post
 write-string-list-determined = by-writing stringList (λ κs v. (v .0 .now, v .1 .0 .now))
 
--- ---- what the crates share: of `room` and `number` the first half says all
+-- ---- what the crates share: of `room` and `read_number` the first half says all
 
 pub room-determined : Determined has-room.Post
 room-determined = record { same = λ κs a r s e f p q. p .0 ∙ sym (q .0) }
 
-pub number-determined : Determined numbers.Post
-number-determined = record { same = λ κs a r s e f p q. p .0 ∙ sym (q .0) }
+pub read-number-determined : Determined reads-number.Post
+read-number-determined = record { same = λ κs a r s e f p q. p .0 ∙ sym (q .0) }
 
 pub put-number-determined : DeterminedAs (λ κs r e. e .0 .now) puts-number.Post
 put-number-determined = by-sight _ (λ κs a. put (a .0 .now) (a .1 .0) (digits (a .1 .1 .0) (a .1 .1 .1 .0)))

@@ -39,8 +39,8 @@ part-more s q at n h =
     part-same s (s ++ q) at n h (omega arith) (take-append-le (at + n) s q h)
 
 -- the first k bytes are at most k, and at most as many as there are
-length-front : (k : ℕ) (s : List ℕ) → (length (take k s) ≤ k) × (length (take k s) ≤ length s)
-length-front k s =
+length-take-most : (k : ℕ) (s : List ℕ) → (length (take k s) ≤ k) × (length (take k s) ≤ length s)
+length-take-most k s =
     elim (decLe k (length s)) [
       | yes h ↦ let e : length (take k s) ≡ k = length-take-le k s h in omega arith
       | no h ↦ let e : length (take k s) ≡ length s = ap length (take-all k s (le-of-lt (lt-of-not-le h))) in let j : length s < k = lt-of-not-le h in omega arith
@@ -76,7 +76,7 @@ module _ {A : Type 0} (read : List ℕ → ℕ → Answer A) (steady : Steady re
   same-front : (k : ℕ) {v : A} {next : ℕ} → read (take k s) at ≡ got v next → (read s at ≡ got v next) × (next ≤ k)
   same-front k {next = next} e =
       let h : next ≤ length (take k s) = steady .bounded (take k s) at e in
-      let b = length-front k s in
+      let b = length-take-most k s in
       let l : next ≤ k = omega (arith, b .0) in
       let m : next ≤ length s = omega (arith, b .1) in
       (steady .local .same (take k s) s at e (sym (take-take next k s l)) m, l)

@@ -25,7 +25,7 @@ fn wide(x: u8) -> u64
 }
 
 // The number of the n bytes from at on.
-pub fn number(bytes: &[u8], at: usize, n: usize) -> u64
+pub fn read_number(bytes: &[u8], at: usize, n: usize) -> u64
     requires { ⌜ (n ≤ 8) × (at + n ≤ length (now bytes)) ⌝ }
     ensures { λ r. ⌜ (r ≡ be (part (now (bytes .entry)) at n)) × (r < 256 ^ n) ⌝ }
 {

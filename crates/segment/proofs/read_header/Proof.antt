@@ -39,7 +39,7 @@ passed c = c .before .before .before
 fields : (c : tie.After-fields) → let l = passed c .before .before .before in paperHeader (c .fields .result) ≡ fieldsAt (form l) (start l .args .bytes .now)
 fields c =
     let l = passed c .before .before .before in
-    c .fields .ensures ∙ ap (fieldsOf (form l)) (c .before .number .ensures .0 ∙ ap (λ (k : ℕ). le (part (start l .args .bytes .now) 0 k)) (c .before .before .number-len .ensures))
+    c .fields .ensures ∙ ap (fieldsOf (form l)) (c .before .read-number .ensures .0 ∙ ap (λ (k : ℕ). le (part (start l .args .bytes .now) 0 k)) (c .before .before .number-len .ensures))
 
 pub read-header-spec : {M : Type 1} → statement M
 read-header-spec =

@@ -24,7 +24,7 @@ put-header-spec =
     let second = c .before .before in
     let check = second .before .before in
     let first = check .before .before .before .before in
-    let number = first .before .before in
-    let start = number .before .before .before in
+    let numbered = first .before .before in
+    let start = numbered .before .before .before in
     header-laid (paperForm (start .args .form)) (paperHeader (start .args .header)) (start .args .out .now) (start .pre)
-    (number .before .number-len .ensures) (number .number .ensures) (first .put-number .ensures) (check .crc24 .ensures) (second .put-number2 .ensures)))
+    (numbered .before .number-len .ensures) (numbered .header-number .ensures) (first .put-number .ensures) (check .crc24 .ensures) (second .put-number2 .ensures)))

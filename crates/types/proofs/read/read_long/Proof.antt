@@ -23,6 +23,6 @@ read-long-spec =
     (λ c.
     let next = c .before .before .before .before .before .args .at + 8 in
     ap (λ (z : ℤ). got z next)
-    (toZ-ofZ w64 (c .signed64 .result) (sfits-of (c .signed64 .ok)) ∙ c .signed64 .ensures ∙ ap (toZ w64) (c .before .number .ensures .0))
+    (toZ-ofZ w64 (c .signed64 .result) (sfits-of (c .signed64 .ok)) ∙ c .signed64 .ensures ∙ ap (toZ w64) (c .before .read-number .ensures .0))
     ∙ sym (signed-read 8 _ _ w64 (sym (c .before .before .before .room .ensures .0) ∙ c .before .before .if1 .taken)))
     (λ c. sym (signed-past 8 _ _ w64 (sym (c .before .room .ensures .0) ∙ c .if1 .left))))

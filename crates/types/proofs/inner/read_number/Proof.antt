@@ -1,12 +1,12 @@
--- `types::inner::number` meets its contract: the value is the number of the bytes passed, which so many bytes hold. Assumes nothing.
+-- `types::inner::read_number` meets its contract: the value is the number of the bytes passed, which so many bytes hold. Assumes nothing.
 use Prim.Native.Nat.{_≤_, _<_, _-_, _+_, _*_, _^_}
 use mathlib.Core.Path.{_≡_, refl}
 use borrow.Author.Needs.{needs}
 use native.Mathlib.Omega.{arith}
 use Rattle.types.specs.Number.{be, beFrom, part}
 use Rattle.types.proofs.BigEndian.{be-part-suc, more-below, below-eight}
-use Rattle.types.proofs.inner.number.Statement.{statement}
-use Rattle.types.proofs.inner.number.Tie as tie
+use Rattle.types.proofs.inner.read_number.Statement.{statement}
+use Rattle.types.proofs.inner.read_number.Tie as tie
 
 abbrev Inv-loop : tie.InvT-loop
 Inv-loop bytes at n value₀ i₀ value i = (i ≤ n) × (value ≡ be (part bytes at i)) × (value < 256 ^ i)
@@ -24,8 +24,8 @@ one-more c =
     let head = c .before .before .before in
     more-below (head .loop .i) (head .loop .inv .2) (omega (arith, c .before .shared-slice-known2 .given (head .before .before .args .at + head .loop .i)))
 
-pub number-spec : {M : Type 1} → statement M
-number-spec =
+pub read-number-spec : {M : Type 1} → statement M
+read-number-spec =
     tie.close
     (tie.spec
     Inv-loop

@@ -1,4 +1,4 @@
--- `segment::inner::number` meets its contract: the value is the number of the bytes from the place reached on, which so many bytes hold. Assumes nothing.
+-- `segment::inner::read_number` meets its contract: the value is the number of the bytes from the place reached on, which so many bytes hold. Assumes nothing.
 use Prim.Native.Nat.{ℕ, _≤_, _<_, _-_, _+_, _*_, _^_}
 use mathlib.Core.Path.{_≡_, sym, ap₂, _∙_, subst}
 use borrow.Author.Needs.{needs}
@@ -8,8 +8,8 @@ use Rattle.types.specs.Number.{part}
 use Rattle.types.proofs.BigEndian.{more-below, below-eight}
 use Rattle.segment.specs.LittleEndian.{le}
 use Rattle.segment.proofs.LittleEndian.{le-next, le-none}
-use Rattle.segment.proofs.inner.number.Statement.{statement}
-use Rattle.segment.proofs.inner.number.Tie as tie
+use Rattle.segment.proofs.inner.read_number.Statement.{statement}
+use Rattle.segment.proofs.inner.read_number.Tie as tie
 
 abbrev Inv-loop : tie.InvT-loop
 Inv-loop bytes at n value₀ left₀ value left = (left ≤ n) × (value ≡ le (part bytes (at + left) (n - left))) × (value < 256 ^ (n - left))
@@ -31,8 +31,8 @@ small c =
     let head = c .before .before .before in
     below-eight {i = head .before .before .args .n - head .loop .left} (omega arith) (one-more c)
 
-pub number-spec : {M : Type 1} → statement M
-number-spec =
+pub read-number-spec : {M : Type 1} → statement M
+read-number-spec =
     tie.close
     (tie.spec
     Inv-loop
