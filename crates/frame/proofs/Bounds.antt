@@ -30,13 +30,13 @@ pub within-bytes : (s : List ℕ) {e : Envelope} → envelope s ≡ whole e → 
 within-bytes s q = let z = found s q .sized in omega (arith, z .is, z .room)
 
 -- its body ends where it ends
-pub body-ends : (s : List ℕ) {e : Envelope} → envelope s ≡ whole e → e .body .start + e .body .count ≡ e .size
+pub body-ends : (s : List ℕ) {e : Envelope} → envelope s ≡ whole e → e .body .start + e .body .len ≡ e .size
 body-ends s {e} q =
     let f = found s q in
     let l : length (take (e .size) s) ≡ e .size = length-take-le (e .size) s (within-bytes s q) in
     let h : f .next ≤ e .size = subst (λ (n : ℕ). f .next ≤ n) l (warnings-end (take (e .size) s) (headerOf s) (afterId (headerOf s)) (subst (λ (n : ℕ). afterId (headerOf s) ≤ n) (sym l) (f .id)) (f .warnings)) in
     let b : e .body .start ≡ f .next = ap (λ (x : Envelope). x .body .start) (f .is) in
-    let c : e .body .count ≡ e .size - f .next = ap (λ (x : Envelope). x .body .count) (f .is) in
+    let c : e .body .len ≡ e .size - f .next = ap (λ (x : Envelope). x .body .len) (f .is) in
     omega arith
 
 -- ---- the size check and the reading

@@ -126,9 +126,9 @@ warnings-walk s {e} q = go (hasWarnings (headerOf s)) refl
     f : Found s e
     f = found s q
 
-    walked : (ps : List Place) (end : ℕ) → stringsAt s (e .warnings .count) (e .warnings .start) ≡ got ps end → Walked s e
+    walked : (ps : List Place) (end : ℕ) → stringsAt s (e .warnings .left) (e .warnings .at) ≡ got ps end → Walked s e
     walked ps end r =
-        let w = walk-read s (e .warnings .count) (e .warnings .start) r in
+        let w = walk-read s (e .warnings .left) (e .warnings .at) r in
         record { places = ps; end = end; walks = w .0; many = w .1; texts = sym (ap (textsOf s) r) }
 
     go : (t : Bool) → hasWarnings (headerOf s) ≡ t → Walked s e
@@ -137,4 +137,4 @@ warnings-walk s {e} q = go (hasWarnings (headerOf s)) refl
         walked (r .0) (f .next) (r .1)
     go false w =
         let ws : strings 0 (afterId (headerOf s)) ≡ e .warnings = got-value (sym (warnings-none s (headerOf s) (afterId (headerOf s)) w) ∙ warnings-here s f) in
-        walked [] (afterId (headerOf s)) (ap (λ (x : Strings). stringsAt s (x .count) (x .start)) (sym ws) ∙ none-read s (afterId (headerOf s)))
+        walked [] (afterId (headerOf s)) (ap (λ (x : Strings). stringsAt s (x .left) (x .at)) (sym ws) ∙ none-read s (afterId (headerOf s)))

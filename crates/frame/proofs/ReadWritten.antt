@@ -133,7 +133,7 @@ module _ (s : List ℕ) (h : Header) (room : afterId h ≤ length s) where
 -- warnings, with the texts that they were read as
 module _ (s : List ℕ) (b : Bytes s) (h : Header) (at : ℕ) (room : at ≤ length s) {ws : Strings} {next : ℕ} (e : warningsAt s h at ≡ got ws next) where
   abbrev texts : List (List ℕ)
-  texts = textsOf s (stringsAt s (ws .count) (ws .start))
+  texts = textsOf s (stringsAt s (ws .left) (ws .at))
 
   record Warned : Type 0 where
     holds : Holds s at (warningsPart h (joined texts) (lengthsOf texts))
@@ -145,7 +145,7 @@ module _ (s : List ℕ) (b : Bytes s) (h : Header) (at : ℕ) (room : at ≤ len
     where
       go : (t : Bool) → hasWarnings h ≡ t → Warned
       go true w =
-          let r : ListRead s at (ws .count) (ws .start) next = list-forth s b at (sym (warnings-there s h at w) ∙ e) in
+          let r : ListRead s at (ws .left) (ws .at) next = list-forth s b at (sym (warnings-there s h at w) ∙ e) in
           let same : texts ≡ textsIn s (r .places) = ap (textsOf s) (r .met) in
           let st : Stands (listCheck (joined texts) (lengthsOf texts)) at (listBytes texts) s next =
           subst (λ (ts : List (List ℕ)). Stands (listCheck (joined ts) (lengthsOf ts)) at (listBytes ts) s next) (sym same) (r .stands)
@@ -193,7 +193,7 @@ module _ (s : List ℕ) (b : Bytes s) {e : Envelope} (q : envelope s ≡ whole e
       subst (λ (k : ℕ). met .next ≤ k) l (warnings-end (take n s) h (afterId h) (subst (λ (k : ℕ). afterId h ≤ k) (sym l) (met .id)) (met .warnings))
 
   abbrev texts-here : List (List ℕ)
-  texts-here = textsOf s (stringsAt s (e .warnings .count) (e .warnings .start))
+  texts-here = textsOf s (stringsAt s (e .warnings .left) (e .warnings .at))
 
   abbrev id-here : List ℕ
   id-here = bytesIn s (idPlace (hasId h))

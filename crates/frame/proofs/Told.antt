@@ -32,8 +32,8 @@ envelope-told = record {
         size = e .size;
         header = header-told .back (e .header);
         traced = e .traced;
-        warnings = record { left = e .warnings .count; at = e .warnings .start };
-        body = record { start = e .body .start; len = e .body .count };
+        warnings = record { left = e .warnings .left; at = e .warnings .at };
+        body = record { start = e .body .start; len = e .body .len };
       };
   is = λ e. ap (λ h. record { size = e .size; header = h; traced = e .traced; warnings = e .warnings; body = e .body }) (header-told .is (e .header));
 }

@@ -107,12 +107,12 @@ module _ (h : Header) (c : Content) (fit : Fits h c) (s : List ℕ) (at : ℕ) (
           (sym (ap (λ (t : Bool). cond t (strings (length (c .lens)) (at + 2)) (strings 0 at)) w))
           (sym (ap (λ (l : List ℕ). at + length l) (list-none h (c .text) (c .lens) w) ∙ add-zero at))
 
-  pub texts-back : textsOf s (stringsAt s (stringsPart h c at .count) (stringsPart h c at .start)) ≡ textsPart h c
+  pub texts-back : textsOf s (stringsAt s (stringsPart h c at .left) (stringsPart h c at .at)) ≡ textsPart h c
   unfolding stringsPart textsPart stringsAt textsIn
   texts-back = go (hasWarnings h) refl
     where
       go : (t : Bool) → hasWarnings h ≡ t
-          → textsOf s (stringsAt s (cond t (strings (length (c .lens)) (at + 2)) (strings 0 at) .count) (cond t (strings (length (c .lens)) (at + 2)) (strings 0 at) .start))
+          → textsOf s (stringsAt s (cond t (strings (length (c .lens)) (at + 2)) (strings 0 at) .left) (cond t (strings (length (c .lens)) (at + 2)) (strings 0 at) .at))
           ≡ cond t (cutBy (c .text) (c .lens)) []
       go true w =
           let all = list-texts (c .text) (c .lens) (writable w) s at (listed w) in

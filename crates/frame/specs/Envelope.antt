@@ -92,4 +92,4 @@ bodyIn s e = bytesIn s (e .body)
 
 -- the texts of its warnings
 unfoldable pub warningsIn : List ℕ → Envelope → List (List ℕ)
-warningsIn s e = textsOf s (stringsAt s (e .warnings .count) (e .warnings .start))
+warningsIn s e = textsOf s (stringsAt s (e .warnings .left) (e .warnings .at))

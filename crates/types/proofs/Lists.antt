@@ -200,8 +200,8 @@ unfolding stringListAt listed listBytes
 list-forth s b at {n} {start} {end} e =
     let h = behind (shortAt s at) (listed s) e in
     let k = behind (stringsAt s (h .value) (h .next)) (λ ps next. got (strings (h .value) (h .next)) next) (h .then) in
-    let en : h .value ≡ n = ap (λ (x : Strings). x .count) (got-value (k .then)) in
-    let es : h .next ≡ start = ap (λ (x : Strings). x .start) (got-value (k .then)) in
+    let en : h .value ≡ n = ap (λ (x : Strings). x .left) (got-value (k .then)) in
+    let es : h .next ≡ start = ap (λ (x : Strings). x .at) (got-value (k .then)) in
     let st = short-forth s b at (h .first) in
     let c = number-found 2 s at (h .first) in
     let ts : List (List ℕ) = textsIn s (k .value) in

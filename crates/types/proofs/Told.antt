@@ -23,7 +23,7 @@ use Rattle.types.specs.declared.Writable.{Writable}
 use Rattle.types.specs.declared.Written.{Written}
 
 abbrev codePlace : Place → code.Place
-codePlace p = record { start = p .start; len = p .count }
+codePlace p = record { start = p .start; len = p .len }
 
 abbrev walkOf : ℕ → ℕ → Walk
 walkOf left at = record { left = left; at = at }
@@ -49,7 +49,7 @@ pub part-told : Tells paperPart
 part-told = record { back = answered (λ p. ReadPart.Part (codePlace p)) ReadPart.Refused; is = elim [ ReadPart.Part p next ↦ refl | ReadPart.Refused e ↦ ap ReadPart.Refused (caseOf-paper e) ] }
 
 pub strings-told : Tells paperStrings
-strings-told = record { back = answered (λ l. ReadStrings.Strings (walkOf (l .count) (l .start))) ReadStrings.Refused; is = elim [ ReadStrings.Strings w next ↦ refl | ReadStrings.Refused e ↦ ap ReadStrings.Refused (caseOf-paper e) ] }
+strings-told = record { back = answered (λ l. ReadStrings.Strings (walkOf (l .left) (l .at))) ReadStrings.Refused; is = elim [ ReadStrings.Strings w next ↦ refl | ReadStrings.Refused e ↦ ap ReadStrings.Refused (caseOf-paper e) ] }
 
 pub written-told : Tells paperWritten
 written-told = record { back = answered (λ u. Written.Next) Written.Refused; is = elim [ Written.Next next ↦ refl | Written.Refused e ↦ ap Written.Refused (caseOf-paper e) ] }

@@ -51,8 +51,8 @@ unfolding stringListAt listed
 list-strings s at {n} {start} {end} e =
     let h = behind (shortAt s at) (listed s) e in
     let k = behind (stringsAt s (h .value) (h .next)) (λ ps next. got (strings (h .value) (h .next)) next) (h .then) in
-    let en : h .value ≡ n = ap (λ (x : Strings). x .count) (got-value (k .then)) in
-    let es : h .next ≡ start = ap (λ (x : Strings). x .start) (got-value (k .then)) in
+    let en : h .value ≡ n = ap (λ (x : Strings). x .left) (got-value (k .then)) in
+    let es : h .next ≡ start = ap (λ (x : Strings). x .at) (got-value (k .then)) in
     (k .value, sym (ap₂ (stringsAt s) en es) ∙ k .first ∙ ap (got (k .value)) (got-next (k .then)))
 
 -- they are walked along from the first on: as many texts as the count says, and the same end
