@@ -12,15 +12,15 @@ use Rattle.refusal.specs.Refusal.{Refusal}
 use Rattle.types.specs.Answer.{got}
 use Rattle.types.specs.Number.{be, part}
 use Rattle.types.specs.Read.{Place, Strings, strings, natural, stringsAt, stringListAt, textsOf}
-use Rattle.types.proofs.Found.{got-value}
+use Rattle.types.proofs.Found.{got-value, list-found}
 use Rattle.types.proofs.Steady.{part-same, appended, steady-string-list}
-use Rattle.types.proofs.Walking.{walk-read, list-strings}
+use Rattle.types.proofs.Walking.{walk-read}
 use Rattle.frame.specs.Header.{headerOf, knownOpcode, hasWarnings}
 use Rattle.basis.specs.Front.{Front, incomplete, refuses, whole}
 use Rattle.frame.specs.Envelope.{declared, sizeOf, Envelope, envelopeWith, afterId, warningsAt, within, inside, envelope, warningsIn}
 use Rattle.frame.specs.Along.{Walked}
 use Rattle.basis.proofs.Fronts.{not-whole, refused-not-whole, whole-value}
-use Rattle.frame.proofs.Cases.{Withins, opcode-unknown, id-cut, warnings-bad, read, within-case, Sized, size-found, envelope-unfinished, envelope-refused, envelope-inside, warnings-there, warnings-none}
+use Rattle.frame.proofs.Cases.{Withins, opcode-unknown, id-cut, warnings-bad, read, within-case, Sized, size-found, envelope-unfinished, envelope-refused, envelope-inside, warnings-are}
 
 -- ---- nine bytes make a header
 
@@ -112,12 +112,12 @@ warnings-here s {e} f = go (hasWarnings (headerOf s)) refl
   where
     go : (t : Bool) → hasWarnings (headerOf s) ≡ t → warningsAt s (headerOf s) (afterId (headerOf s)) ≡ got (e .warnings) (f .next)
     go true w =
-        warnings-there s (headerOf s) (afterId (headerOf s)) w
+        warnings-are s (headerOf s) (afterId (headerOf s)) w
         ∙ ap (λ (l : List ℕ). stringListAt l (afterId (headerOf s))) (sym (take-append-drop (e .size) s))
         ∙ appended stringListAt steady-string-list (take (e .size) s) (afterId (headerOf s))
-        (sym (warnings-there (take (e .size) s) (headerOf s) (afterId (headerOf s)) w) ∙ f .warnings) (drop (e .size) s)
+        (sym (warnings-are (take (e .size) s) (headerOf s) (afterId (headerOf s)) w) ∙ f .warnings) (drop (e .size) s)
     go false w =
-        warnings-none s (headerOf s) (afterId (headerOf s)) w ∙ sym (warnings-none (take (e .size) s) (headerOf s) (afterId (headerOf s)) w) ∙ f .warnings
+        warnings-are s (headerOf s) (afterId (headerOf s)) w ∙ sym (warnings-are (take (e .size) s) (headerOf s) (afterId (headerOf s)) w) ∙ f .warnings
 
 pub warnings-walk : (s : List ℕ) {e : Envelope} → envelope s ≡ whole e → Walked s e
 unfolding warningsIn
@@ -133,8 +133,8 @@ warnings-walk s {e} q = go (hasWarnings (headerOf s)) refl
 
     go : (t : Bool) → hasWarnings (headerOf s) ≡ t → Walked s e
     go true w =
-        let r = list-strings s (afterId (headerOf s)) (sym (warnings-there s (headerOf s) (afterId (headerOf s)) w) ∙ warnings-here s f) in
-        walked (r .0) (f .next) (r .1)
+        let r = list-found s (afterId (headerOf s)) (sym (warnings-are s (headerOf s) (afterId (headerOf s)) w) ∙ warnings-here s f) in
+        walked (r .1) (f .next) (r .2)
     go false w =
-        let ws : strings 0 (afterId (headerOf s)) ≡ e .warnings = got-value (sym (warnings-none s (headerOf s) (afterId (headerOf s)) w) ∙ warnings-here s f) in
+        let ws : strings 0 (afterId (headerOf s)) ≡ e .warnings = got-value (sym (warnings-are s (headerOf s) (afterId (headerOf s)) w) ∙ warnings-here s f) in
         walked [] (afterId (headerOf s)) (ap (λ (x : Strings). stringsAt s (x .left) (x .at)) (sym ws) ∙ none-read s (afterId (headerOf s)))

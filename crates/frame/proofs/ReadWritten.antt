@@ -32,8 +32,8 @@ use Rattle.frame.specs.Envelope.{declared, Envelope, idPlace, afterId, w
 use Rattle.frame.specs.Write.{Content, content, idPart, warningsPart, tailBytes, headerBytes, envelopeBytes, maxBody, maxFlags, idFits, warningFits, flagsFit, headFits, warningsCheck, envelopeCheck}
 use Rattle.frame.specs.ThereAndBack.{Premises, contentOf, WrittenAgain}
 use Rattle.frame.proofs.Bounds.{within-bytes}
-use Rattle.frame.proofs.Cases.{warnings-there, warnings-none}
-use Rattle.frame.proofs.Checked.{id-there, id-none, list-there, list-none, check-there, check-none, tail-length}
+use Rattle.frame.proofs.Cases.{warnings-are}
+use Rattle.frame.proofs.Checked.{id-is, list-is, check-is, tail-length}
 use Rattle.frame.proofs.Ends.{warnings-end}
 use Rattle.frame.proofs.Found.{Found, found, warnings-here}
 use Rattle.frame.proofs.Laid.{header-length, envelope-length}
@@ -113,7 +113,7 @@ module _ (s : List ℕ) (h : Header) (room : afterId h ≤ length s) where
           let q : idPlace (hasId h) ≡ place 9 16 = ap idPlace e in
           let l : length (bytesIn s (idPlace (hasId h))) ≡ 16 = ap (λ (x : Place). length (bytesIn s x)) q ∙ p .0 in
           record {
-            same = id-there h _ e;
+            same = id-is h _ e;
             holds = subst (λ (x : Place). Holds s 9 (bytesIn s x)) (sym q) (p .1);
             start = ap (λ (k : ℕ). 9 + k) l ∙ sym (ap (λ (t : Bool). 9 + cond t 16 0) e);
             fits = ap (λ (t : Bool). cond t (eqb (length (bytesIn s (idPlace (hasId h)))) 16) true) e ∙ eq-eqb (length (bytesIn s (idPlace (hasId h)))) 16 l;
@@ -124,7 +124,7 @@ module _ (s : List ℕ) (h : Header) (room : afterId h ≤ length s) where
           let q : idPlace (hasId h) ≡ place 9 0 = ap idPlace e in
           let l : length (bytesIn s (idPlace (hasId h))) ≡ 0 = ap (λ (x : Place). length (bytesIn s x)) q ∙ p .0 in
           record {
-            same = id-none h _ e ∙ sym (nothing _ l);
+            same = id-is h _ e ∙ sym (nothing _ l);
             holds = subst (λ (x : Place). Holds s 9 (bytesIn s x)) (sym q) (p .1);
             start = ap (λ (k : ℕ). 9 + k) l ∙ sym (ap (λ (t : Bool). 9 + cond t 16 0) e);
             fits = ap (λ (t : Bool). cond t (eqb (length (bytesIn s (idPlace (hasId h)))) 16) true) e;
@@ -145,25 +145,25 @@ module _ (s : List ℕ) (b : Bytes s) (h : Header) (at : ℕ) (room : at ≤ len
     where
       go : (t : Bool) → hasWarnings h ≡ t → Warned
       go true w =
-          let r : ListRead s at (ws .left) (ws .at) next = list-forth s b at (sym (warnings-there s h at w) ∙ e) in
+          let r : ListRead s at (ws .left) (ws .at) next = list-forth s b at (sym (warnings-are s h at w) ∙ e) in
           let same : texts ≡ textsIn s (r .places) = ap (textsOf s) (r .met) in
           let st : Stands (listCheck (joined texts) (lengthsOf texts)) at (listBytes texts) s next =
           subst (λ (ts : List (List ℕ)). Stands (listCheck (joined ts) (lengthsOf ts)) at (listBytes ts) s next) (sym same) (r .stands)
           in
           let is : warningsPart h (joined texts) (lengthsOf texts) ≡ listBytes texts =
-          list-there h (joined texts) (lengthsOf texts) w ∙ ap listBytes (cut-joined texts)
+          list-is h (joined texts) (lengthsOf texts) w ∙ ap listBytes (cut-joined texts)
           in
           record {
             holds = subst (λ (l : List ℕ). Holds s at l) (sym is) (st .holds);
             end = st .end ∙ ap (λ (l : List ℕ). at + length l) (sym is);
-            fits = check-there h (joined texts) (lengthsOf texts) w ∙ st .nothing;
+            fits = check-is h (joined texts) (lengthsOf texts) w ∙ st .nothing;
           }
       go false w =
-          let is : warningsPart h (joined texts) (lengthsOf texts) ≡ [] = list-none h (joined texts) (lengthsOf texts) w in
+          let is : warningsPart h (joined texts) (lengthsOf texts) ≡ [] = list-is h (joined texts) (lengthsOf texts) w in
           record {
             holds = subst (λ (l : List ℕ). Holds s at l) (sym is) (none-there s at room);
-            end = sym (got-next (sym (warnings-none s h at w) ∙ e)) ∙ sym (ap (λ (l : List ℕ). at + length l) is ∙ add-zero at);
-            fits = check-none h (joined texts) (lengthsOf texts) w;
+            end = sym (got-next (sym (warnings-are s h at w) ∙ e)) ∙ sym (ap (λ (l : List ℕ). at + length l) is ∙ add-zero at);
+            fits = check-is h (joined texts) (lengthsOf texts) w;
           }
 
 -- ---- the whole

@@ -27,8 +27,8 @@ use Rattle.basis.specs.Front.{whole}
 use Rattle.frame.specs.Envelope.{declared, sizeOf, Envelope, envelopeWith, afterId, warningsAt, within, inside, envelope, idIn, bodyIn, warningsIn}
 use Rattle.frame.specs.Write.{Content, idPart, warningsPart, tailBytes, headerBytes, envelopeBytes, envelopeCheck, cleared, textsPart}
 use Rattle.frame.specs.ThereAndBack.{ReadBack}
-use Rattle.frame.proofs.Cases.{fits, size-is, read, within-is, warnings-there, warnings-none, envelope-inside}
-use Rattle.frame.proofs.Checked.{Fits, fields-fit, version-small, list-there, list-none, check-there, tail-length}
+use Rattle.frame.proofs.Cases.{fits, size-is, read, within-is, warnings-are, envelope-inside}
+use Rattle.frame.proofs.Checked.{Fits, fields-fit, version-small, list-is, check-is, tail-length}
 use Rattle.frame.proofs.Laid.{header-length, envelope-length}
 
 -- ---- flags without 01
@@ -84,10 +84,10 @@ stringsPart h c at = cond (hasWarnings h) (strings (length (c .lens)) (at + 2)) 
 
 module _ (h : Header) (c : Content) (fit : Fits h c) (s : List ℕ) (at : ℕ) (there : Holds s at (warningsPart h (c .text) (c .lens))) where
   listed : hasWarnings h ≡ true → Holds s at (listBytes (cutBy (c .text) (c .lens)))
-  listed w = subst (λ (l : List ℕ). Holds s at l) (list-there h (c .text) (c .lens) w) there
+  listed w = subst (λ (l : List ℕ). Holds s at l) (list-is h (c .text) (c .lens) w) there
 
   writable : hasWarnings h ≡ true → listCheck (c .text) (c .lens) ≡ fine
-  writable w = sym (check-there h (c .text) (c .lens) w) ∙ fit .warnings
+  writable w = sym (check-is h (c .text) (c .lens) w) ∙ fit .warnings
 
   pub warnings-back : warningsAt s (cleared h) at ≡ got (stringsPart h c at) (at + length (warningsPart h (c .text) (c .lens)))
   unfolding stringsPart
@@ -96,16 +96,16 @@ module _ (h : Header) (c : Content) (fit : Fits h c) (s : List ℕ) (at : ℕ) (
       go : (t : Bool) → hasWarnings h ≡ t
           → warningsAt s (cleared h) at ≡ got (cond (hasWarnings h) (strings (length (c .lens)) (at + 2)) (strings 0 at)) (at + length (warningsPart h (c .text) (c .lens)))
       go true w =
-          warnings-there s (cleared h) at (cleared-warnings h ∙ w)
+          warnings-are s (cleared h) at (cleared-warnings h ∙ w)
           ∙ list-back (c .text) (c .lens) (writable w) s at (listed w)
           ∙ ap₂ (λ (x : Strings) (k : ℕ). got x (at + k))
           (sym (ap (λ (t : Bool). cond t (strings (length (c .lens)) (at + 2)) (strings 0 at)) w))
-          (ap length (sym (list-there h (c .text) (c .lens) w)))
+          (ap length (sym (list-is h (c .text) (c .lens) w)))
       go false w =
-          warnings-none s (cleared h) at (cleared-warnings h ∙ w)
+          warnings-are s (cleared h) at (cleared-warnings h ∙ w)
           ∙ ap₂ (λ (x : Strings) (k : ℕ). got x k)
           (sym (ap (λ (t : Bool). cond t (strings (length (c .lens)) (at + 2)) (strings 0 at)) w))
-          (sym (ap (λ (l : List ℕ). at + length l) (list-none h (c .text) (c .lens) w) ∙ add-zero at))
+          (sym (ap (λ (l : List ℕ). at + length l) (list-is h (c .text) (c .lens) w) ∙ add-zero at))
 
   pub texts-back : textsOf s (stringsAt s (stringsPart h c at .left) (stringsPart h c at .at)) ≡ textsPart h c
   unfolding stringsPart textsPart stringsAt textsIn

@@ -21,7 +21,7 @@ use Rattle.types.specs.Number.{be, part}
 use Rattle.utf8.specs.Utf8.{utf8}
 use Rattle.types.specs.Read.{Place, place, numberAt, signedAt, byteAt, shortAt, intAt, longAt, runAt, textAt, uuidAt, natural, countAt, longText, nullableRun, shortBytesAt, stringAt, longStringAt, bytesAt, strings, stringsAt, listed, stringListAt}
 use Rattle.types.specs.Steady.{Local, Steady}
-use Rattle.types.proofs.Reading.{then-got, then-refused}
+use Rattle.types.proofs.Reading.{then-got, then-refused, number-read, run-read, text-read}
 use Rattle.types.proofs.Found.{got-refused, got-value, got-next, same-refusal, behind}
 
 -- ---- parts
@@ -242,21 +242,16 @@ module _ {A : Type 0} (n : ℕ) (fit : List ℕ → Bool) (why : Refusal) (value
           inr (is (s ++ q) at ∙ ap₂ (λ room fits. judged room fits at (part (s ++ q) at n)) (le-leb (at + n) (length (s ++ q)) (omega arith)) (ap fit (part-more s q at n k) ∙ f) ∙ r)
 
 pub steady-number : (n : ℕ) → Steady (numberAt n)
-unfolding judged numberAt
-steady-number n = steady-part n (λ bytes. true) pastEnd (λ at. be) (numberAt n) (λ s at. refl)
+unfolding judged
+steady-number n = steady-part n (λ bytes. true) pastEnd (λ at. be) (numberAt n) (λ s at. number-read n s at refl)
 
 pub steady-run : (n : ℕ) → Steady (λ s at. runAt s n at)
-unfolding judged runAt
-steady-run n = steady-part n (λ bytes. true) pastEnd (λ at bytes. place at n) (λ s at. runAt s n at) (λ s at. refl)
+unfolding judged
+steady-run n = steady-part n (λ bytes. true) pastEnd (λ at bytes. place at n) (λ s at. runAt s n at) (λ s at. run-read n s at refl)
 
 pub steady-text : (n : ℕ) → Steady (λ s at. textAt s n at)
-unfolding judged runAt textAt
-steady-text n = steady-part n utf8 notUtf8 (λ at bytes. place at n) (λ s at. textAt s n at) (λ s at. by-room s at (leb (at + n) (length s)))
-  where
-    by-room : (s : List ℕ) (at : ℕ) (room : Bool) → andThen (cond room (got (place at n) (at + n)) (refused pastEnd)) (λ p next. cond (utf8 (part s at n)) (got p next) (refused notUtf8))
-        ≡ cond room (cond (utf8 (part s at n)) (got (place at n) (at + n)) (refused notUtf8)) (refused pastEnd)
-    by-room s at true = refl
-    by-room s at false = refl
+unfolding judged
+steady-text n = steady-part n utf8 notUtf8 (λ at bytes. place at n) (λ s at. textAt s n at) (λ s at. text-read n s at refl refl)
 
 pub steady-signed : (w : Width) (n : ℕ) → Steady (signedAt w n)
 unfolding signedAt

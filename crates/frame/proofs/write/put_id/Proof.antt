@@ -5,7 +5,7 @@ use mathlib.Core.List.{List}
 use lib.ListN.{length}
 use Rattle.frame.specs.Write.{idPart}
 use Rattle.frame.specs.Paper.{paperHeader}
-use Rattle.frame.proofs.Checked.{id-there, id-none}
+use Rattle.frame.proofs.Checked.{id-is}
 use Rattle.frame.proofs.Laid.{part-there, part-none}
 use borrow.Author.Needs.{needs}
 use Rattle.frame.proofs.write.put_id.Statement.{statement}
@@ -15,7 +15,7 @@ abbrev start : tie.After-has-id → tie.Start
 start c = c .before .before .before
 
 is : (c : tie.Then1) → let s = start (c .before) in idPart (paperHeader (s .args .header)) (s .args .id .now) ≡ s .args .id .now
-is c = id-there _ _ (sym (c .before .has-id .ensures) ∙ c .if1 .taken)
+is c = id-is _ _ (sym (c .before .has-id .ensures) ∙ c .if1 .taken)
 
 pub put-id-spec : {M : Type 1} → statement M
 put-id-spec =
@@ -26,4 +26,4 @@ put-id-spec =
     (λ c. search needs)
     (λ c. search needs)
     (λ c. let p = c .before .before in part-there _ _ (is (p .before .before)) refl (p .put-bytes .ensures))
-    (λ c. part-none _ _ (id-none _ _ (sym (c .before .has-id .ensures) ∙ c .if1 .left))))
+    (λ c. part-none _ _ (id-is _ _ (sym (c .before .has-id .ensures) ∙ c .if1 .left))))

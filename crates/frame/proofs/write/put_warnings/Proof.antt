@@ -9,7 +9,7 @@ use Rattle.types.specs.Write.{cutBy, listBytes, lengthsFit}
 use Rattle.types.proofs.Cut.{writes, list-length}
 use Rattle.frame.specs.Write.{warningsPart}
 use Rattle.frame.specs.Paper.{paperHeader}
-use Rattle.frame.proofs.Checked.{check-there, list-there, list-none}
+use Rattle.frame.proofs.Checked.{check-is, list-is}
 use Rattle.frame.proofs.Laid.{part-there, part-none}
 use borrow.Author.Needs.{needs}
 use Rattle.frame.proofs.write.put_warnings.Statement.{statement}
@@ -24,10 +24,10 @@ part s = warningsPart (paperHeader (s .args .header)) (s .args .text .now) (s .a
 -- ---- where they are there
 
 is : (c : tie.Then1) → let s = start (c .before) in part s ≡ listBytes (cutBy (s .args .text .now) (s .args .lens .now))
-is c = list-there _ _ _ (sym (c .before .has-warnings .ensures) ∙ c .if1 .taken)
+is c = list-is _ _ _ (sym (c .before .has-warnings .ensures) ∙ c .if1 .taken)
 
 fits : (c : tie.Then1) → let s = start (c .before) in lengthsFit (length (s .args .text .now)) (s .args .lens .now) ≡ true
-fits c = writes _ _ (sym (check-there _ _ _ (sym (c .before .has-warnings .ensures) ∙ c .if1 .taken)) ∙ start (c .before) .pre .0) .lengths
+fits c = writes _ _ (sym (check-is _ _ _ (sym (c .before .has-warnings .ensures) ∙ c .if1 .taken)) ∙ start (c .before) .pre .0) .lengths
 
 long : (c : tie.Then1) → let s = start (c .before) in length (listBytes (cutBy (s .args .text .now) (s .args .lens .now))) ≡ 2 + 2 * length (s .args .lens .now) + length (s .args .text .now)
 long c = list-length _ _ (fits c)
@@ -49,4 +49,4 @@ put-warnings-spec =
     (λ c. omega (arith, start (there c .before) .pre .1, ap length (is (there c)), long (there c)))
     (λ c. search needs)
     (λ c. part-there _ _ (is (there c)) (long (there c)) (c .before .before .put-list .ensures))
-    (λ c. part-none _ _ (list-none _ _ _ (sym (c .before .has-warnings .ensures) ∙ c .if1 .left))))
+    (λ c. part-none _ _ (list-is _ _ _ (sym (c .before .has-warnings .ensures) ∙ c .if1 .left))))
