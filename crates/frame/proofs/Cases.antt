@@ -134,15 +134,6 @@ size-found s n e = go (size-case s) e
     go (unknown d h v) e = absurd (refused-not-whole e)
     go (fits {n = b} d h v) e = record { body = b; is = whole-value e; declares = d; room = h; version = v }
 
-module _ (s : List ℕ) where
-  pub envelope-unfinished : sizeOf s ≡ incomplete → envelope s ≡ incomplete
-  unfolding envelope
-  envelope-unfinished e = ap (λ (f : Front Refusal ℕ). ifWhole f (λ n. inside (take n s))) e
-
-  pub envelope-refused : {why : Refusal} → sizeOf s ≡ refuses why → envelope s ≡ refuses why
-  unfolding envelope
-  envelope-refused e = ap (λ (f : Front Refusal ℕ). ifWhole f (λ n. inside (take n s))) e
-
-  pub envelope-inside : {n : ℕ} → sizeOf s ≡ whole n → envelope s ≡ inside (take n s)
-  unfolding envelope
-  envelope-inside e = ap (λ (f : Front Refusal ℕ). ifWhole f (λ n. inside (take n s))) e
+pub envelope-is : (s : List ℕ) {f : Front Refusal ℕ} → sizeOf s ≡ f → envelope s ≡ ifWhole f (λ n. inside (take n s))
+unfolding envelope
+envelope-is s e = ap (λ (f : Front Refusal ℕ). ifWhole f (λ n. inside (take n s))) e

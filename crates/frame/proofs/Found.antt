@@ -20,7 +20,7 @@ use Rattle.basis.specs.Front.{Front, incomplete, refuses, whole}
 use Rattle.frame.specs.Envelope.{declared, sizeOf, Envelope, envelopeWith, afterId, warningsAt, within, inside, envelope, warningsIn}
 use Rattle.frame.specs.Along.{Walked}
 use Rattle.basis.proofs.Fronts.{not-whole, refused-not-whole, whole-value}
-use Rattle.frame.proofs.Cases.{Withins, opcode-unknown, id-cut, warnings-bad, read, within-case, Sized, size-found, envelope-unfinished, envelope-refused, envelope-inside, warnings-are}
+use Rattle.frame.proofs.Cases.{Withins, opcode-unknown, id-cut, warnings-bad, read, within-case, Sized, size-found, envelope-is, warnings-are}
 
 -- ---- nine bytes make a header
 
@@ -93,12 +93,12 @@ unfolding inside
 found s {e} q = go (sizeOf s) refl
   where
     go : (f : Front Refusal ℕ) → sizeOf s ≡ f → Found s e
-    go incomplete p = absurd (not-whole (sym (envelope-unfinished s p) ∙ q))
-    go (refuses why) p = absurd (refused-not-whole (sym (envelope-refused s p) ∙ q))
+    go incomplete p = absurd (not-whole (sym (envelope-is s p) ∙ q))
+    go (refuses why) p = absurd (refused-not-whole (sym (envelope-is s p) ∙ q))
     go (whole n) p =
         let z : Sized s n = size-found s n p in
         found-inside s n z p
-        (sym (ap (within (take n s)) (front-header s n (omega (arith, z .is)) (omega (arith, z .is, z .room)))) ∙ sym (envelope-inside s p) ∙ q)
+        (sym (ap (within (take n s)) (front-header s n (omega (arith, z .is)) (omega (arith, z .is, z .room)))) ∙ sym (envelope-is s p) ∙ q)
 
 -- ---- the warnings
 

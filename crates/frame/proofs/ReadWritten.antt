@@ -6,7 +6,7 @@ use mathlib.Core.List.{List, [], _∷_, _++_}
 use mathlib.Core.Option.{some}
 use native.Mathlib.Nat.{add-zero, zero-add}
 use native.Mathlib.Omega.{arith}
-use borrow.Author.Tests.{le-leb, leb-true, leb-false, eq-eqb}
+use borrow.Author.Tests.{le-leb, leb-true, leb-false}
 use lib.Dec.{leb, eqb}
 use lib.ListN.{length, take, drop, getD}
 use lib.Seq.{take-add, drop-drop, drop-cons, length-take-le}
@@ -17,7 +17,7 @@ use Rattle.basis.specs.Bytes.{Bytes}
 use Rattle.refusal.specs.Refusal.{outputTooShort, notWritable}
 use Rattle.types.specs.Answer.{Answer, got, refused}
 use Rattle.types.specs.Number.{be, part, digits}
-use Rattle.types.specs.Read.{Place, place, Strings, bytesIn, stringsAt, textsIn, textsOf}
+use Rattle.types.specs.Read.{place, Strings, bytesIn, stringsAt, textsIn, textsOf}
 use Rattle.types.specs.Write.{Check, fine, joined, lengthsOf, listBytes, listCheck, put, written, output, Wrote}
 use Rattle.types.proofs.BigEndian.{digits-be, be-below, length-part, bytes-part}
 use Rattle.types.proofs.Put.{demanded}
@@ -98,37 +98,31 @@ module _ (s : List ℕ) (h : Header) (room : afterId h ≤ length s) where
     start : 9 + length (bytesIn s (idPlace (hasId h))) ≡ afterId h
     fits : idFits h (length (bytesIn s (idPlace (hasId h)))) ≡ true
 
+  id-long : length (bytesIn s (idPlace (hasId h))) ≡ cond (hasId h) 16 0
+  unfolding afterId
+  id-long = place-bytes s 9 (cond (hasId h) 16 0) room .0
+
   id-forth : Ided
   unfolding afterId
-  id-forth = go (hasId h) refl
+  id-forth =
+      record {
+        same = same (hasId h) refl;
+        holds = place-bytes s 9 (cond (hasId h) 16 0) room .1;
+        start = ap (λ (k : ℕ). 9 + k) id-long;
+        fits = ap (idFits h) id-long ∙ fits (hasId h);
+      }
     where
       nothing : (l : List ℕ) → length l ≡ 0 → l ≡ []
       nothing [] e = refl
       nothing (x ∷ l) e = let f : ⊥ = omega arith in absurd f
 
-      go : (t : Bool) → hasId h ≡ t → Ided
-      go true e =
-          let r : 9 + 16 ≤ length s = subst (λ (t : Bool). 9 + cond t 16 0 ≤ length s) e room in
-          let p = place-bytes s 9 16 r in
-          let q : idPlace (hasId h) ≡ place 9 16 = ap idPlace e in
-          let l : length (bytesIn s (idPlace (hasId h))) ≡ 16 = ap (λ (x : Place). length (bytesIn s x)) q ∙ p .0 in
-          record {
-            same = id-is h _ e;
-            holds = subst (λ (x : Place). Holds s 9 (bytesIn s x)) (sym q) (p .1);
-            start = ap (λ (k : ℕ). 9 + k) l ∙ sym (ap (λ (t : Bool). 9 + cond t 16 0) e);
-            fits = ap (λ (t : Bool). cond t (eqb (length (bytesIn s (idPlace (hasId h)))) 16) true) e ∙ eq-eqb (length (bytesIn s (idPlace (hasId h)))) 16 l;
-          }
-      go false e =
-          let r : 9 + 0 ≤ length s = subst (λ (t : Bool). 9 + cond t 16 0 ≤ length s) e room in
-          let p = place-bytes s 9 0 r in
-          let q : idPlace (hasId h) ≡ place 9 0 = ap idPlace e in
-          let l : length (bytesIn s (idPlace (hasId h))) ≡ 0 = ap (λ (x : Place). length (bytesIn s x)) q ∙ p .0 in
-          record {
-            same = id-is h _ e ∙ sym (nothing _ l);
-            holds = subst (λ (x : Place). Holds s 9 (bytesIn s x)) (sym q) (p .1);
-            start = ap (λ (k : ℕ). 9 + k) l ∙ sym (ap (λ (t : Bool). 9 + cond t 16 0) e);
-            fits = ap (λ (t : Bool). cond t (eqb (length (bytesIn s (idPlace (hasId h)))) 16) true) e;
-          }
+      same : (t : Bool) → hasId h ≡ t → idPart h (bytesIn s (idPlace (hasId h))) ≡ bytesIn s (idPlace (hasId h))
+      same true e = id-is h _ e
+      same false e = id-is h _ e ∙ sym (nothing _ (id-long ∙ ap (λ (t : Bool). cond t 16 0) e))
+
+      fits : (t : Bool) → cond t (eqb (cond t 16 0) 16) true ≡ true
+      fits true = refl
+      fits false = refl
 
 -- warnings, with the texts that they were read as
 module _ (s : List ℕ) (b : Bytes s) (h : Header) (at : ℕ) (room : at ≤ length s) {ws : Strings} {next : ℕ} (e : warningsAt s h at ≡ got ws next) where

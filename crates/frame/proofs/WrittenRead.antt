@@ -27,7 +27,7 @@ use Rattle.basis.specs.Front.{whole}
 use Rattle.frame.specs.Envelope.{declared, sizeOf, Envelope, envelopeWith, afterId, warningsAt, within, inside, envelope, idIn, bodyIn, warningsIn}
 use Rattle.frame.specs.Write.{Content, idPart, warningsPart, tailBytes, headerBytes, envelopeBytes, envelopeCheck, cleared, textsPart}
 use Rattle.frame.specs.ThereAndBack.{ReadBack}
-use Rattle.frame.proofs.Cases.{fits, size-is, read, within-is, warnings-are, envelope-inside}
+use Rattle.frame.proofs.Cases.{fits, size-is, read, within-is, warnings-are, envelope-is}
 use Rattle.frame.proofs.Checked.{Fits, fields-fit, version-small, list-is, check-is, tail-length}
 use Rattle.frame.proofs.Laid.{header-length, envelope-length}
 
@@ -211,7 +211,7 @@ module _ (h : Header) (c : Content) (fit : Fits h c) (stream : SFits w16 (h .str
 
   envelope-back : (q : List ℕ) → envelope (envelopeBytes h c ++ q) ≡ whole (envelopeBack h c)
   envelope-back q =
-      envelope-inside (envelopeBytes h c ++ q) (size-here q)
+      envelope-is (envelopeBytes h c ++ q) (size-here q)
       ∙ ap inside (take-at (envelopeBytes h c) q (9 + length (tailBytes h c)) (envelope-length h c))
       ∙ inside-back
 
