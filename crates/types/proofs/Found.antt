@@ -25,32 +25,16 @@ use Rattle.types.proofs.Reading.{natural-some, natural-none}
 
 -- no value is a refusal
 pub got-refused : {A : Type 0} {v : A} {next : ℕ} {why : Refusal} → refused why ≡ got v next → ⊥
-got-refused {A} e = let z : _≡_ {A = ℕ} 0 1 = ap (λ (a : Answer A). tag a) e in omega arith
-  where
-    tag : Answer A → ℕ
-    tag (got v next) = 1
-    tag (refused why) = 0
+got-refused e = let z : _≡_ {A = ℕ} 0 1 = cc in omega arith
 
 pub got-value : {A : Type 0} {v w : A} {next end : ℕ} → got v next ≡ got w end → v ≡ w
-got-value {A} {v} e = ap (λ (a : Answer A). value a) e
-  where
-    value : Answer A → A
-    value (got w end) = w
-    value (refused why) = v
+got-value e = cc
 
 pub got-next : {A : Type 0} {v w : A} {next end : ℕ} → got v next ≡ got w end → next ≡ end
-got-next {A} e = ap (λ (a : Answer A). position a) e
-  where
-    position : Answer A → ℕ
-    position (got w end) = end
-    position (refused why) = 0
+got-next e = cc
 
 pub same-refusal : {A : Type 0} {d e : Refusal} → _≡_ {A = Answer A} (refused d) (refused e) → d ≡ e
-same-refusal {A} {d} r = ap (λ (a : Answer A). refusal a) r
-  where
-    refusal : Answer A → Refusal
-    refusal (got w end) = d
-    refusal (refused why) = why
+same-refusal r = cc
 
 -- a value that was read behind something: what was read first, and then it
 pub record Behind {A B : Type 0} (a : Answer A) (f : A → ℕ → Answer B) (w : B) (end : ℕ) : Type 0 where
