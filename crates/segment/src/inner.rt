@@ -12,12 +12,6 @@ use crate::Form;
 use crate::Header;
 use crc::crc24;
 
-fn wide(x: u8) -> u64
-    ensures { λ r. ⌜ r ≡ x ⌝ }
-{
-    x as u64
-}
-
 // The number of the n bytes from at on, the last byte first.
 pub fn read_number(bytes: &[u8], at: usize, n: usize) -> u64
     requires { ⌜ (n ≤ 8) × (at + n ≤ length (now bytes)) ⌝ }
@@ -27,7 +21,7 @@ pub fn read_number(bytes: &[u8], at: usize, n: usize) -> u64
     let mut left = n;
     while 0 < left {
         left -= 1;
-        let b = wide(bytes[at + left]);
+        let b = bytes[at + left] as u64;
         value = value * 256 + b;
     }
     value

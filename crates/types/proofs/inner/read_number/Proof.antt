@@ -3,6 +3,7 @@ use Prim.Native.Nat.{_≤_, _<_, _-_, _+_, _*_, _^_}
 use mathlib.Core.Path.{_≡_, refl}
 use borrow.Author.Needs.{needs}
 use native.Mathlib.Omega.{arith}
+use lib.ListN.{getD}
 use Rattle.types.specs.Number.{be, beFrom, part}
 use Rattle.types.proofs.BigEndian.{be-part-suc, more-below, below-eight}
 use Rattle.types.proofs.inner.read_number.Statement.{statement}
@@ -19,10 +20,11 @@ unfolding be beFrom
 loop-holds c = (search needs, refl, search needs)
 
 -- with one byte more the value is below what so many bytes hold
-one-more : (c : tie.After-wide Inv-loop μ-loop) → c .before .before .before .loop .value * 256 + c .wide .result < 256 ^ (c .before .before .before .loop .i + 1)
-one-more c =
-    let head = c .before .before .before in
-    more-below (head .loop .i) (head .loop .inv .2) (omega (arith, c .before .shared-slice-known2 .given (head .before .before .args .at + head .loop .i)))
+byte : (c : tie.After-shared-slice-known Inv-loop μ-loop) → let h = c .before .before in getD (h .before .args .bytes .now) (h .before .args .at + h .loop .i) 0 < 256
+byte c = omega (arith, c .shared-slice-known .given (c .before .before .before .args .at + c .before .before .loop .i))
+
+one-more : (c : tie.After-shared-slice-known Inv-loop μ-loop) → let h = c .before .before in h .loop .value * 256 + getD (h .before .args .bytes .now) (h .before .args .at + h .loop .i) 0 < 256 ^ (h .loop .i + 1)
+one-more c = more-below (c .before .before .loop .i) (c .before .before .loop .inv .2) (byte c)
 
 pub read-number-spec : {M : Type 1} → statement M
 read-number-spec =
@@ -33,14 +35,14 @@ read-number-spec =
     loop-holds
     (λ c. omega arith)
     (λ c. omega arith)
-    (λ c κs. search needs)
+    (λ c. omega (arith, byte c))
     (λ c. omega (arith, below-eight (omega arith) (one-more c)))
     (λ c. omega (arith, below-eight (omega arith) (one-more c)))
     (λ c. omega arith)
     (λ c. omega arith)
     (λ c.
-    let head = c .before .before .before in
-    (omega arith, cc (be-part-suc (head .before .before .args .bytes .now) (head .before .before .args .at) (head .loop .i) (omega arith)), one-more c))
+    let h = c .before .before in
+    (omega arith, cc (be-part-suc (h .before .args .bytes .now) (h .before .args .at) (h .loop .i) (omega arith)), one-more c))
     (λ c.
-    let e : c .before .loop .i ≡ c .before .before .before .args .n = omega arith in
+    let e : c .before .loop .i ≡ c .before .before .args .n = omega arith in
     (rw e at (c .before .loop .inv .1), rw e at (c .before .loop .inv .2))))
