@@ -7,7 +7,7 @@ use Rattle.crc.specs.Fold.{run, times, ifSet}
 use Rattle.crc.specs.Check24.{shift24, byte24, crc24}
 use Rattle.crc.specs.Check32.{shift32, byte32, common32, crc32}
 use Rattle.segment.specs.LittleEndian.{leDigits}
-use Rattle.segment.specs.Header.{short, long, header, numberOf, headerNumber, headerBytes}
+use Rattle.segment.specs.Header.{short, long, header, headerNumber, numberBytes, headerBytes}
 use Rattle.segment.specs.Segment.{segmentBytes}
 
 pub known :
@@ -16,7 +16,7 @@ pub known :
     ∷ (0xff ∷ 0xff ∷ 0x01 ∷ 0x38 ∷ 0x91 ∷ 0xfe ∷ [])
     ∷ (0x05 ∷ 0x00 ∷ 0x00 ∷ 0x00 ∷ 0x04 ∷ 0xe4 ∷ 0xab ∷ 0x8e ∷ [])
     ∷ []
-unfolding segmentBytes headerBytes headerNumber numberOf leDigits crc24 byte24 shift24 crc32 common32 byte32 shift32 run times ifSet
+unfolding segmentBytes headerBytes numberBytes headerNumber leDigits crc24 byte24 shift24 crc32 common32 byte32 shift32 run times ifSet
 known = refl
 
 -- 13.3

@@ -11,7 +11,7 @@ use Rattle.types.specs.Number.{be, beFrom}
 use Rattle.types.specs.Read.{place, strings, bytesIn, numberAt, runAt, textAt, stringAt, stringsAt, textsIn, listed, stringListAt}
 use Rattle.utf8.specs.Utf8.{begin, step, after, utf8}
 use Rattle.segment.specs.LittleEndian.{leDigits}
-use Rattle.segment.specs.Header.{short, long, numberOf, headerNumber, headerBytes}
+use Rattle.segment.specs.Header.{short, long, headerNumber, numberBytes, headerBytes}
 use Rattle.frame.specs.Header.{headerOf, knownVersion, knownOpcode, hasId, hasWarnings}
 use Rattle.frame.specs.Envelope.{declared, sized, sizeOf, afterId, warningsAt, within, inside, envelope, idIn, bodyIn, warningsIn}
 use Rattle.examples.specs.Example.{seen, Example, header-of, crc24-of, front-of, Shown, begins, check, reads, shown}
@@ -86,5 +86,5 @@ pub examples : (b₁ b₂ b₃ b₄ b₅ b₆ b₇ b₈ b₉ b₁₀ b₁₁ b�
     }))
     ∷ reads (refuses 13)
     ∷ []
-unfolding shown seen envelope sizeOf sized declared headerOf knownVersion knownOpcode hasId hasWarnings afterId warningsAt within inside idIn bodyIn warningsIn be beFrom bytesIn numberAt runAt textAt stringAt stringsAt textsIn listed stringListAt utf8 after step begin leDigits numberOf headerNumber headerBytes crc24 run
+unfolding shown seen envelope sizeOf sized declared headerOf knownVersion knownOpcode hasId hasWarnings afterId warningsAt within inside idIn bodyIn warningsIn be beFrom bytesIn numberAt runAt textAt stringAt stringsAt textsIn listed stringListAt utf8 after step begin leDigits headerNumber numberBytes headerBytes crc24 run
 examples b₁ b₂ b₃ b₄ b₅ b₆ b₇ b₈ b₉ b₁₀ b₁₁ b₁₂ b₁₃ b₁₄ b₁₅ = refl

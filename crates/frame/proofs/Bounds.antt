@@ -17,7 +17,7 @@ use Rattle.types.proofs.Refusing.{OfTexts, list-refused}
 use Rattle.frame.specs.Header.{Header, headerOf, knownVersion, hasWarnings}
 use Rattle.basis.specs.Front.{Front, incomplete, refuses, whole}
 use Rattle.frame.specs.Envelope.{sizeOf, Envelope, afterId, warningsAt, within, inside, envelope}
-use Rattle.frame.proofs.Cases.{Sizes, short, negative, cut, unknown, fits, size-is, size-case, Withins, opcode-unknown, id-cut, warnings-bad, read, within-case, Sized, size-found, envelope-unfinished, envelope-refused, envelope-inside}
+use Rattle.frame.proofs.Cases.{Sizes, short, negative, cut, unknown, fits, size-is, size-case, Withins, opcode-unknown, id-cut, warnings-bad, read, within-case, Sized, size-found, envelope-is}
 use Rattle.frame.proofs.Ends.{warnings-end}
 use Rattle.frame.proofs.Found.{front-declared, front-header, behind-declared, behind-header, found}
 
@@ -30,13 +30,13 @@ pub within-bytes : (s : List ℕ) {e : Envelope} → envelope s ≡ whole e → 
 within-bytes s q = let z = found s q .sized in omega (arith, z .is, z .room)
 
 -- its body ends where it ends
-pub body-ends : (s : List ℕ) {e : Envelope} → envelope s ≡ whole e → e .body .start + e .body .count ≡ e .size
+pub body-ends : (s : List ℕ) {e : Envelope} → envelope s ≡ whole e → e .body .start + e .body .len ≡ e .size
 body-ends s {e} q =
     let f = found s q in
     let l : length (take (e .size) s) ≡ e .size = length-take-le (e .size) s (within-bytes s q) in
     let h : f .next ≤ e .size = subst (λ (n : ℕ). f .next ≤ n) l (warnings-end (take (e .size) s) (headerOf s) (afterId (headerOf s)) (subst (λ (n : ℕ). afterId (headerOf s) ≤ n) (sym l) (f .id)) (f .warnings)) in
     let b : e .body .start ≡ f .next = ap (λ (x : Envelope). x .body .start) (f .is) in
-    let c : e .body .count ≡ e .size - f .next = ap (λ (x : Envelope). x .body .count) (f .is) in
+    let c : e .body .len ≡ e .size - f .next = ap (λ (x : Envelope). x .body .len) (f .is) in
     omega arith
 
 -- ---- the size check and the reading
@@ -46,10 +46,10 @@ size-whole s q = found s q .size
 
 -- where the size check does not pass, the reading says the same
 pub size-unfinished : (s : List ℕ) → sizeOf s ≡ incomplete → envelope s ≡ incomplete
-size-unfinished = envelope-unfinished
+size-unfinished s e = envelope-is s e
 
 pub size-refused : (s : List ℕ) {why : Refusal} → sizeOf s ≡ refuses why → envelope s ≡ refuses why
-size-refused s = envelope-refused s
+size-refused s e = envelope-is s e
 
 warnings-refused : (s : List ℕ) (h : Header) (at : ℕ) (why : Refusal) → warningsAt s h at ≡ refused why → OfTexts why
 unfolding warningsAt
@@ -67,14 +67,14 @@ later s {n} p = go (within-case (take n s) (headerOf (take n s))) refl
   where
     go : {f : Front Refusal Envelope} → Withins (take n s) (headerOf (take n s)) f → f ≡ within (take n s) (headerOf (take n s))
         → ((e : Envelope) × (envelope s ≡ whole e) × (e .size ≡ n)) ⊎ ((why : Refusal) × (envelope s ≡ refuses why) × (10 ≤ refusalNumber why) × (refusalNumber why ≤ 13))
-    go (opcode-unknown k) e = inr (unknownOpcode, envelope-inside s p ∙ sym e, omega arith, omega arith)
-    go (id-cut k h) e = inr (tracingIdCutShort, envelope-inside s p ∙ sym e, omega arith, omega arith)
+    go (opcode-unknown k) e = inr (unknownOpcode, envelope-is s p ∙ sym e, omega arith, omega arith)
+    go (id-cut k h) e = inr (tracingIdCutShort, envelope-is s p ∙ sym e, omega arith, omega arith)
     go (warnings-bad {why = why} k h w) e =
         let r : OfTexts why = warnings-refused (take n s) (headerOf (take n s)) _ why w in
-        inr (why, envelope-inside s p ∙ sym e, omega (arith, r .0), omega (arith, r .1))
+        inr (why, envelope-is s p ∙ sym e, omega (arith, r .0), omega (arith, r .1))
     go (read k h w) e =
         let z : Sized s n = size-found s n p in
-        inl (_, envelope-inside s p ∙ sym e, length-take-le n s (omega (arith, z .is, z .room)))
+        inl (_, envelope-is s p ∙ sym e, length-take-le n s (omega (arith, z .is, z .room)))
 
 -- ---- bytes behind
 
@@ -82,21 +82,21 @@ pub nothing-behind : (s q : List ℕ) → (envelope s ≡ incomplete → ⊥) �
 nothing-behind s q there = go (size-case s) refl
   where
     go : {f : Front Refusal ℕ} → Sizes s f → f ≡ sizeOf s → envelope (s ++ q) ≡ envelope s
-    go (short h) e = absurd (there (envelope-unfinished s (sym e)))
+    go (short h) e = absurd (there (envelope-is s (sym e)))
     go (negative h d) e =
-        envelope-refused (s ++ q) (size-is (s ++ q) (negative (omega (arith, length-append s q)) (behind-declared s q h ∙ d))) ∙ sym (envelope-refused s (sym e))
-    go (cut h d k) e = absurd (there (envelope-unfinished s (sym e)))
+        envelope-is (s ++ q) (size-is (s ++ q) (negative (omega (arith, length-append s q)) (behind-declared s q h ∙ d))) ∙ sym (envelope-is s (sym e))
+    go (cut h d k) e = absurd (there (envelope-is s (sym e)))
     go (unknown d h v) e =
         let nine : 9 ≤ length s = omega arith in
-        envelope-refused (s ++ q)
+        envelope-is (s ++ q)
         (size-is (s ++ q) (unknown (behind-declared s q nine ∙ d) (omega (arith, length-append s q)) (ap (λ (x : Header). knownVersion (x .version)) (behind-header s q nine) ∙ v)))
-        ∙ sym (envelope-refused s (sym e))
+        ∙ sym (envelope-is s (sym e))
     go (fits {n = b} d h v) e =
         let nine : 9 ≤ length s = omega arith in
-        envelope-inside (s ++ q)
+        envelope-is (s ++ q)
         (size-is (s ++ q) (fits (behind-declared s q nine ∙ d) (omega (arith, length-append s q)) (ap (λ (x : Header). knownVersion (x .version)) (behind-header s q nine) ∙ v)))
         ∙ ap inside (take-append-le (9 + b) s q h)
-        ∙ sym (envelope-inside s (sym e))
+        ∙ sym (envelope-is s (sym e))
 
 -- ---- its own bytes
 
@@ -115,7 +115,7 @@ module _ (s : List ℕ) {e : Envelope} (q : envelope s ≡ whole e) where
       (fits (front-declared s n nine room ∙ z .declares) (omega (arith, z .is)) (ap (λ (x : Header). knownVersion (x .version)) (front-header s n nine room) ∙ z .version))
       ∙ ap whole (z .is)
       in
-      envelope-inside (take n s) sized ∙ ap inside (take-take n n s (le-refl n)) ∙ sym (envelope-inside s (f .size)) ∙ q
+      envelope-is (take n s) sized ∙ ap inside (take-take n n s (le-refl n)) ∙ sym (envelope-is s (f .size)) ∙ q
 
   -- and none of them can be missing
   pub cut-short : (k : ℕ) → k < e .size → envelope (take k s) ≡ incomplete
@@ -123,7 +123,7 @@ module _ (s : List ℕ) {e : Envelope} (q : envelope s ≡ whole e) where
       let z : Sized s (e .size) = found s q .sized in
       let room : k ≤ length s = omega (arith, within-bytes s q) in
       let l : length (take k s) ≡ k = length-take-le k s room in
-      envelope-unfinished (take k s)
+      size-unfinished (take k s)
       (elim (decLe 9 k) [
         | yes nine ↦ size-is (take k s) (cut (omega arith) (front-declared s k nine room ∙ z .declares) (omega (arith, z .is)))
         | no few ↦ size-is (take k s) (short (let m : k < 9 = lt-of-not-le few in omega arith))

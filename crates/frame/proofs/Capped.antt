@@ -39,15 +39,15 @@ capped-plus a b =
     ]
 
 -- what the test of a capped number says of the number
-pub capped-within : (n : ℕ) → capped n ≤ maxBody → (n ≤ maxBody) × (capped n ≡ n)
-capped-within n h =
+pub capped-within : {r : ℕ} (n : ℕ) → r ≡ capped n → r ≤ maxBody → (n ≤ maxBody) × (r ≡ n)
+capped-within n e h =
     elim (decLe n maxBody) [
-      | yes k ↦ (k, capped-small k)
+      | yes k ↦ (k, e ∙ capped-small k)
       | no k ↦ let f : ⊥ = omega (arith, capped-large (lt-of-not-le k)) in absurd f
     ]
 
-pub capped-past : (n : ℕ) → maxBody < capped n → maxBody < n
-capped-past n h =
+pub capped-past : {r : ℕ} (n : ℕ) → r ≡ capped n → maxBody < r → maxBody < n
+capped-past n e h =
     elim (decLe n maxBody) [
       | yes k ↦ let f : ⊥ = omega (arith, capped-small k) in absurd f
       | no k ↦ lt-of-not-le k

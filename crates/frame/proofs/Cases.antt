@@ -76,7 +76,8 @@ pub data Withins (s : List ℕ) (h : Header) : Front Refusal Envelope → Type 0
       → Withins s h (whole (envelopeWith (length s) h ws next))
 
 module _ (s : List ℕ) (h : Header) where
-  known : knownOpcode (h .opcode) ≡ true → within s h ≡ cond (ltb (length s) (afterId h)) (refuses tracingIdCutShort) (readAs (length s) h (warningsAt s h (afterId h)))
+  known : {t : Bool} → knownOpcode (h .opcode) ≡ t
+      → within s h ≡ cond t (cond (ltb (length s) (afterId h)) (refuses tracingIdCutShort) (readAs (length s) h (warningsAt s h (afterId h)))) (refuses unknownOpcode)
   unfolding within
   known k = ap (λ t. cond t (cond (ltb (length s) (afterId h)) (refuses tracingIdCutShort) (readAs (length s) h (warningsAt s h (afterId h)))) (refuses unknownOpcode)) k
 
@@ -84,8 +85,7 @@ module _ (s : List ℕ) (h : Header) where
   id-whole k l = known k ∙ ap (λ t. cond t (refuses tracingIdCutShort) (readAs (length s) h (warningsAt s h (afterId h)))) (le-ltb (length s) (afterId h) l)
 
   pub within-is : {f : Front Refusal Envelope} → Withins s h f → within s h ≡ f
-  unfolding within
-  within-is (opcode-unknown k) = ap (λ t. cond t (cond (ltb (length s) (afterId h)) (refuses tracingIdCutShort) (readAs (length s) h (warningsAt s h (afterId h)))) (refuses unknownOpcode)) k
+  within-is (opcode-unknown k) = known k
   within-is (id-cut k l) = known k ∙ ap (λ t. cond t (refuses tracingIdCutShort) (readAs (length s) h (warningsAt s h (afterId h)))) (lt-ltb (length s) (afterId h) l)
   within-is (warnings-bad k l e) = id-whole k l ∙ ap (readAs (length s) h) e
   within-is (read k l e) = id-whole k l ∙ ap (readAs (length s) h) e
@@ -110,14 +110,9 @@ module _ (s : List ℕ) (h : Header) where
 
 -- ---- the warnings
 
-module _ (s : List ℕ) (h : Header) (at : ℕ) where
-  pub warnings-there : hasWarnings h ≡ true → warningsAt s h at ≡ stringListAt s at
-  unfolding warningsAt
-  warnings-there w = ap (λ t. cond t (stringListAt s at) (got (strings 0 at) at)) w
-
-  pub warnings-none : hasWarnings h ≡ false → warningsAt s h at ≡ got (strings 0 at) at
-  unfolding warningsAt
-  warnings-none w = ap (λ t. cond t (stringListAt s at) (got (strings 0 at) at)) w
+pub warnings-are : (s : List ℕ) (h : Header) (at : ℕ) {there : Bool} → hasWarnings h ≡ there → warningsAt s h at ≡ cond there (stringListAt s at) (got (strings 0 at) at)
+unfolding warningsAt
+warnings-are s h at w = ap (λ t. cond t (stringListAt s at) (got (strings 0 at) at)) w
 
 -- ---- the size, and what is read
 
@@ -139,15 +134,6 @@ size-found s n e = go (size-case s) e
     go (unknown d h v) e = absurd (refused-not-whole e)
     go (fits {n = b} d h v) e = record { body = b; is = whole-value e; declares = d; room = h; version = v }
 
-module _ (s : List ℕ) where
-  pub envelope-unfinished : sizeOf s ≡ incomplete → envelope s ≡ incomplete
-  unfolding envelope
-  envelope-unfinished e = ap (λ (f : Front Refusal ℕ). ifWhole f (λ n. inside (take n s))) e
-
-  pub envelope-refused : {why : Refusal} → sizeOf s ≡ refuses why → envelope s ≡ refuses why
-  unfolding envelope
-  envelope-refused e = ap (λ (f : Front Refusal ℕ). ifWhole f (λ n. inside (take n s))) e
-
-  pub envelope-inside : {n : ℕ} → sizeOf s ≡ whole n → envelope s ≡ inside (take n s)
-  unfolding envelope
-  envelope-inside e = ap (λ (f : Front Refusal ℕ). ifWhole f (λ n. inside (take n s))) e
+pub envelope-is : (s : List ℕ) {f : Front Refusal ℕ} → sizeOf s ≡ f → envelope s ≡ ifWhole f (λ n. inside (take n s))
+unfolding envelope
+envelope-is s e = ap (λ (f : Front Refusal ℕ). ifWhole f (λ n. inside (take n s))) e

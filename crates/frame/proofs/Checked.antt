@@ -19,29 +19,17 @@ use Rattle.frame.specs.Private.Inside.{idSize, warningsSize, tailSize, P
 -- ---- the parts that a header asks for
 
 module _ (h : Header) where
-  pub id-there : (id : List ℕ) → hasId h ≡ true → idPart h id ≡ id
+  pub id-is : (id : List ℕ) {there : Bool} → hasId h ≡ there → idPart h id ≡ cond there id []
   unfolding idPart
-  id-there id e = ap (λ (t : Bool). cond t id []) e
+  id-is id e = ap (λ (t : Bool). cond t id []) e
 
-  pub id-none : (id : List ℕ) → hasId h ≡ false → idPart h id ≡ []
-  unfolding idPart
-  id-none id e = ap (λ (t : Bool). cond t id []) e
-
-  pub list-there : (text lens : List ℕ) → hasWarnings h ≡ true → warningsPart h text lens ≡ listBytes (cutBy text lens)
+  pub list-is : (text lens : List ℕ) {there : Bool} → hasWarnings h ≡ there → warningsPart h text lens ≡ cond there (listBytes (cutBy text lens)) []
   unfolding warningsPart
-  list-there text lens e = ap (λ (t : Bool). cond t (listBytes (cutBy text lens)) []) e
+  list-is text lens e = ap (λ (t : Bool). cond t (listBytes (cutBy text lens)) []) e
 
-  pub list-none : (text lens : List ℕ) → hasWarnings h ≡ false → warningsPart h text lens ≡ []
-  unfolding warningsPart
-  list-none text lens e = ap (λ (t : Bool). cond t (listBytes (cutBy text lens)) []) e
-
-  pub check-there : (text lens : List ℕ) → hasWarnings h ≡ true → warningsCheck h text lens ≡ listCheck text lens
+  pub check-is : (text lens : List ℕ) {there : Bool} → hasWarnings h ≡ there → warningsCheck h text lens ≡ cond there (listCheck text lens) fine
   unfolding warningsCheck
-  check-there text lens e = ap (λ (t : Bool). cond t (listCheck text lens) fine) e
-
-  pub check-none : (text lens : List ℕ) → hasWarnings h ≡ false → warningsCheck h text lens ≡ fine
-  unfolding warningsCheck
-  check-none text lens e = ap (λ (t : Bool). cond t (listCheck text lens) fine) e
+  check-is text lens e = ap (λ (t : Bool). cond t (listCheck text lens) fine) e
 
 -- ---- how long they are
 
@@ -89,12 +77,12 @@ module _ (h : Header) (c : Content) where
     where
       by-lengths : hasWarnings h ≡ true → (t : Bool) → lengthsFit (length (c .text)) (c .lens) ≡ t
           → (length (tailBytes h c) ≡ givenSize h c) ⊎ (warningsCheck h (c .text) (c .lens) ≡ against notWritable)
-      by-lengths e true f = inl (by-parts true e (ap length (list-there h (c .text) (c .lens) e) ∙ list-length (c .text) (c .lens) f ∙ omega arith))
-      by-lengths e false f = inr (check-there h (c .text) (c .lens) e ∙ unfit (c .text) (c .lens) f)
+      by-lengths e true f = inl (by-parts true e (ap length (list-is h (c .text) (c .lens) e) ∙ list-length (c .text) (c .lens) f ∙ omega arith))
+      by-lengths e false f = inr (check-is h (c .text) (c .lens) e ∙ unfit (c .text) (c .lens) f)
 
       by-warnings : (t : Bool) → hasWarnings h ≡ t → (length (tailBytes h c) ≡ givenSize h c) ⊎ (warningsCheck h (c .text) (c .lens) ≡ against notWritable)
       by-warnings true e = by-lengths e (lengthsFit (length (c .text)) (c .lens)) refl
-      by-warnings false e = inl (by-parts false e (ap length (list-none h (c .text) (c .lens) e)))
+      by-warnings false e = inl (by-parts false e (ap length (list-is h (c .text) (c .lens) e)))
 
   -- ---- the ways through the checks
 

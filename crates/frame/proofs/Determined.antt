@@ -2,7 +2,7 @@
 -- Assumes nothing.
 use Rattle.basis.specs.Determined.{Determined, DeterminedAs}
 use Rattle.basis.proofs.Determined.{by-equation, by-sight, by-meaning}
-use Rattle.types.proofs.Determined.{Outcome, by-wrote}
+use Rattle.types.proofs.Determined.{DeterminedWriter, by-wrote}
 use Rattle.frame.specs.Envelope.{sizeOf, sizeNumber, envelope, idIn, bodyIn}
 use Rattle.frame.specs.Paper.{paperHeader, paperEnvelope}
 use Rattle.frame.specs.Write.{content, envelopeBytes, envelopeCheck}
@@ -24,15 +24,14 @@ pub read-envelope-determined : Determined reads.Post
 read-envelope-determined = by-meaning reading-told (λ κs a. envelope (a .0 .now))
 
 pub body-determined : DeterminedAs (λ κs r e. r .now) bodies.Post
-body-determined = by-sight (λ κs r e. r .now) (λ κs a. bodyIn (a .0 .now) (paperEnvelope (a .1 .0)))
+body-determined = by-sight _ (λ κs a. bodyIn (a .0 .now) (paperEnvelope (a .1 .0)))
 
 pub tracing-id-determined : DeterminedAs (λ κs r e. r .now) ids.Post
-tracing-id-determined = by-sight (λ κs r e. r .now) (λ κs a. idIn (a .0 .now) (paperEnvelope (a .1 .0)))
+tracing-id-determined = by-sight _ (λ κs a. idIn (a .0 .now) (paperEnvelope (a .1 .0)))
 
-pub write-envelope-determined : DeterminedAs {Seen = Outcome} (λ κs r e. (r, e .0 .now)) writes.Post
+pub write-envelope-determined : DeterminedWriter writes.Post
 write-envelope-determined =
-    by-wrote (λ κs e. e .0 .now)
-    (λ κs a. envelopeCheck (paperHeader (a .1 .0)) (content (a .1 .1 .0 .now) (a .1 .1 .1 .0 .now) (a .1 .1 .1 .1 .0 .now) (a .1 .1 .1 .1 .1 .0 .now)))
-    (λ κs a. a .0 .now)
-    (λ κs a. 0)
-    (λ κs a. envelopeBytes (paperHeader (a .1 .0)) (content (a .1 .1 .0 .now) (a .1 .1 .1 .0 .now) (a .1 .1 .1 .1 .0 .now) (a .1 .1 .1 .1 .1 .0 .now)))
+    by-wrote
+    (λ κs v. envelopeCheck (paperHeader (v .0)) (content (v .1 .0 .now) (v .1 .1 .0 .now) (v .1 .1 .1 .0 .now) (v .1 .1 .1 .1 .0 .now)))
+    (λ κs v. 0)
+    (λ κs v. envelopeBytes (paperHeader (v .0)) (content (v .1 .0 .now) (v .1 .1 .0 .now) (v .1 .1 .1 .0 .now) (v .1 .1 .1 .1 .0 .now)))

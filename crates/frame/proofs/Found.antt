@@ -11,17 +11,16 @@ use mir.Val.{toZ}
 use Rattle.refusal.specs.Refusal.{Refusal}
 use Rattle.types.specs.Answer.{got}
 use Rattle.types.specs.Number.{be, part}
-use Rattle.types.specs.Along.{Walks}
-use Rattle.types.specs.Read.{Place, Strings, strings, natural, stringsAt, textsIn, stringListAt, textsOf}
-use Rattle.types.proofs.Found.{got-value}
+use Rattle.types.specs.Read.{Place, Strings, strings, natural, stringsAt, stringListAt, textsOf}
+use Rattle.types.proofs.Found.{got-value, list-found}
 use Rattle.types.proofs.Steady.{part-same, appended, steady-string-list}
-use Rattle.types.proofs.Walking.{walk-read, list-strings}
+use Rattle.types.proofs.Walking.{walk-read}
 use Rattle.frame.specs.Header.{headerOf, knownOpcode, hasWarnings}
 use Rattle.basis.specs.Front.{Front, incomplete, refuses, whole}
 use Rattle.frame.specs.Envelope.{declared, sizeOf, Envelope, envelopeWith, afterId, warningsAt, within, inside, envelope, warningsIn}
 use Rattle.frame.specs.Along.{Walked}
 use Rattle.basis.proofs.Fronts.{not-whole, refused-not-whole, whole-value}
-use Rattle.frame.proofs.Cases.{Withins, opcode-unknown, id-cut, warnings-bad, read, within-case, Sized, size-found, envelope-unfinished, envelope-refused, envelope-inside, warnings-there, warnings-none}
+use Rattle.frame.proofs.Cases.{Withins, opcode-unknown, id-cut, warnings-bad, read, within-case, Sized, size-found, envelope-is, warnings-are}
 
 -- ---- nine bytes make a header
 
@@ -44,14 +43,14 @@ module _ (s t : List ℕ) (hs : 9 ≤ length s) (ht : 9 ≤ length t) (same : ta
 
 -- of the bytes of an envelope, and of these with others behind
 module _ (s : List ℕ) (n : ℕ) (nine : 9 ≤ n) (room : n ≤ length s) where
-  length-front : length (take n s) ≡ n
-  length-front = length-take-le n s room
+  front-long : 9 ≤ length (take n s)
+  front-long = omega (arith, length-take-le n s room)
 
   pub front-declared : declared (take n s) ≡ declared s
-  front-declared = same-declared s (take n s) (omega arith) (omega (arith, length-front)) (take-take 9 n s nine)
+  front-declared = same-declared s (take n s) (omega arith) front-long (take-take 9 n s nine)
 
   pub front-header : headerOf (take n s) ≡ headerOf s
-  front-header = same-header s (take n s) (omega arith) (omega (arith, length-front)) (take-take 9 n s nine)
+  front-header = same-header s (take n s) (omega arith) front-long (take-take 9 n s nine)
 
 module _ (s q : List ℕ) (nine : 9 ≤ length s) where
   long : 9 ≤ length (s ++ q)
@@ -94,12 +93,12 @@ unfolding inside
 found s {e} q = go (sizeOf s) refl
   where
     go : (f : Front Refusal ℕ) → sizeOf s ≡ f → Found s e
-    go incomplete p = absurd (not-whole (sym (envelope-unfinished s p) ∙ q))
-    go (refuses why) p = absurd (refused-not-whole (sym (envelope-refused s p) ∙ q))
+    go incomplete p = absurd (not-whole (sym (envelope-is s p) ∙ q))
+    go (refuses why) p = absurd (refused-not-whole (sym (envelope-is s p) ∙ q))
     go (whole n) p =
         let z : Sized s n = size-found s n p in
         found-inside s n z p
-        (sym (ap (within (take n s)) (front-header s n (omega (arith, z .is)) (omega (arith, z .is, z .room)))) ∙ sym (envelope-inside s p) ∙ q)
+        (sym (ap (within (take n s)) (front-header s n (omega (arith, z .is)) (omega (arith, z .is, z .room)))) ∙ sym (envelope-is s p) ∙ q)
 
 -- ---- the warnings
 
@@ -113,12 +112,12 @@ warnings-here s {e} f = go (hasWarnings (headerOf s)) refl
   where
     go : (t : Bool) → hasWarnings (headerOf s) ≡ t → warningsAt s (headerOf s) (afterId (headerOf s)) ≡ got (e .warnings) (f .next)
     go true w =
-        warnings-there s (headerOf s) (afterId (headerOf s)) w
+        warnings-are s (headerOf s) (afterId (headerOf s)) w
         ∙ ap (λ (l : List ℕ). stringListAt l (afterId (headerOf s))) (sym (take-append-drop (e .size) s))
         ∙ appended stringListAt steady-string-list (take (e .size) s) (afterId (headerOf s))
-        (sym (warnings-there (take (e .size) s) (headerOf s) (afterId (headerOf s)) w) ∙ f .warnings) (drop (e .size) s)
+        (sym (warnings-are (take (e .size) s) (headerOf s) (afterId (headerOf s)) w) ∙ f .warnings) (drop (e .size) s)
     go false w =
-        warnings-none s (headerOf s) (afterId (headerOf s)) w ∙ sym (warnings-none (take (e .size) s) (headerOf s) (afterId (headerOf s)) w) ∙ f .warnings
+        warnings-are s (headerOf s) (afterId (headerOf s)) w ∙ sym (warnings-are (take (e .size) s) (headerOf s) (afterId (headerOf s)) w) ∙ f .warnings
 
 pub warnings-walk : (s : List ℕ) {e : Envelope} → envelope s ≡ whole e → Walked s e
 unfolding warningsIn
@@ -127,15 +126,15 @@ warnings-walk s {e} q = go (hasWarnings (headerOf s)) refl
     f : Found s e
     f = found s q
 
-    walked : (ps : List Place) (end : ℕ) → stringsAt s (e .warnings .count) (e .warnings .start) ≡ got ps end → Walked s e
+    walked : (ps : List Place) (end : ℕ) → stringsAt s (e .warnings .left) (e .warnings .at) ≡ got ps end → Walked s e
     walked ps end r =
-        let w = walk-read s (e .warnings .count) (e .warnings .start) r in
+        let w = walk-read s (e .warnings .left) (e .warnings .at) r in
         record { places = ps; end = end; walks = w .0; many = w .1; texts = sym (ap (textsOf s) r) }
 
     go : (t : Bool) → hasWarnings (headerOf s) ≡ t → Walked s e
     go true w =
-        let r = list-strings s (afterId (headerOf s)) (sym (warnings-there s (headerOf s) (afterId (headerOf s)) w) ∙ warnings-here s f) in
-        walked (r .0) (f .next) (r .1)
+        let r = list-found s (afterId (headerOf s)) (sym (warnings-are s (headerOf s) (afterId (headerOf s)) w) ∙ warnings-here s f) in
+        walked (r .1) (f .next) (r .2)
     go false w =
-        let ws : strings 0 (afterId (headerOf s)) ≡ e .warnings = got-value (sym (warnings-none s (headerOf s) (afterId (headerOf s)) w) ∙ warnings-here s f) in
-        walked [] (afterId (headerOf s)) (ap (λ (x : Strings). stringsAt s (x .count) (x .start)) (sym ws) ∙ none-read s (afterId (headerOf s)))
+        let ws : strings 0 (afterId (headerOf s)) ≡ e .warnings = got-value (sym (warnings-are s (headerOf s) (afterId (headerOf s)) w) ∙ warnings-here s f) in
+        walked [] (afterId (headerOf s)) (ap (λ (x : Strings). stringsAt s (x .left) (x .at)) (sym ws) ∙ none-read s (afterId (headerOf s)))

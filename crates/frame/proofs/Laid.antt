@@ -2,15 +2,15 @@
 use Prim.Native.Nat.{ℕ, _+_, _≤_}
 use mathlib.Core.Path.{_≡_, refl, sym, ap, _∙_, subst}
 use mathlib.Core.Bool.{true}
-use mathlib.Core.List.{List, _++_, append-assoc}
-use native.Mathlib.Nat.{zero-add}
+use mathlib.Core.List.{List, [], _++_, append-assoc}
+use native.Mathlib.Nat.{zero-add, add-zero}
 use native.Mathlib.Omega.{arith}
 use lib.Dec.{leb}
 use lib.ListN.{length, length-append}
 use Rattle.types.specs.Number.{digits}
 use Rattle.types.specs.Answer.{got}
 use Rattle.types.specs.Write.{put, Wrote, fine}
-use Rattle.types.proofs.Put.{put-then, wrote-all}
+use Rattle.types.proofs.Put.{put-none, put-then, wrote-all}
 use Rattle.frame.specs.Header.{Header}
 use Rattle.frame.specs.Write.{Content, idPart, warningsPart, tailBytes, headerBytes, envelopeBytes}
 use Rattle.frame.proofs.Checked.{tail-length}
@@ -22,6 +22,16 @@ header-length h n = refl
 pub envelope-length : (h : Header) (c : Content) → length (envelopeBytes h c) ≡ 9 + length (tailBytes h c)
 unfolding envelopeBytes
 envelope-length h c = length-append (headerBytes h (length (tailBytes h c))) (tailBytes h c) ∙ ap (λ (k : ℕ). k + length (tailBytes h c)) (header-length h (length (tailBytes h c)))
+
+-- ---- a part that is there, or is not
+
+pub part-there : (out : List ℕ) (at : ℕ) {part bs left : List ℕ} {n : ℕ} → part ≡ bs → length bs ≡ n → left ≡ put out at bs → (at + n ≡ at + length part) × (left ≡ put out at part)
+part-there out at is long e = (ap (λ (k : ℕ). at + k) (sym (ap length is ∙ long)), e ∙ ap (put out at) (sym is))
+
+pub part-none : (out : List ℕ) (at : ℕ) {part : List ℕ} → part ≡ [] → (at ≡ at + length part) × (out ≡ put out at part)
+part-none out at none = (sym (ap (λ (l : List ℕ). at + length l) none ∙ add-zero at), sym (ap (put out at) none ∙ put-none out at))
+
+-- ---- all of them
 
 module _ (h : Header) (c : Content) where
   id : List ℕ

@@ -6,7 +6,7 @@ use mathlib.Core.List.{List, [], _∷_, _++_}
 use mathlib.Core.Option.{some}
 use native.Mathlib.Nat.{add-zero, zero-add}
 use native.Mathlib.Omega.{arith}
-use borrow.Author.Tests.{le-leb, leb-true, leb-false, eq-eqb}
+use borrow.Author.Tests.{le-leb, leb-true, leb-false}
 use lib.Dec.{leb, eqb}
 use lib.ListN.{length, take, drop, getD}
 use lib.Seq.{take-add, drop-drop, drop-cons, length-take-le}
@@ -17,7 +17,7 @@ use Rattle.basis.specs.Bytes.{Bytes}
 use Rattle.refusal.specs.Refusal.{outputTooShort, notWritable}
 use Rattle.types.specs.Answer.{Answer, got, refused}
 use Rattle.types.specs.Number.{be, part, digits}
-use Rattle.types.specs.Read.{Place, place, Strings, bytesIn, stringsAt, textsIn, textsOf}
+use Rattle.types.specs.Read.{place, Strings, bytesIn, stringsAt, textsIn, textsOf}
 use Rattle.types.specs.Write.{Check, fine, joined, lengthsOf, listBytes, listCheck, put, written, output, Wrote}
 use Rattle.types.proofs.BigEndian.{digits-be, be-below, length-part, bytes-part}
 use Rattle.types.proofs.Put.{demanded}
@@ -32,8 +32,8 @@ use Rattle.frame.specs.Envelope.{declared, Envelope, idPlace, afterId, w
 use Rattle.frame.specs.Write.{Content, content, idPart, warningsPart, tailBytes, headerBytes, envelopeBytes, maxBody, maxFlags, idFits, warningFits, flagsFit, headFits, warningsCheck, envelopeCheck}
 use Rattle.frame.specs.ThereAndBack.{Premises, contentOf, WrittenAgain}
 use Rattle.frame.proofs.Bounds.{within-bytes}
-use Rattle.frame.proofs.Cases.{warnings-there, warnings-none}
-use Rattle.frame.proofs.Checked.{id-there, id-none, list-there, list-none, check-there, check-none, tail-length}
+use Rattle.frame.proofs.Cases.{warnings-are}
+use Rattle.frame.proofs.Checked.{id-is, list-is, check-is, tail-length}
 use Rattle.frame.proofs.Ends.{warnings-end}
 use Rattle.frame.proofs.Found.{Found, found, warnings-here}
 use Rattle.frame.proofs.Laid.{header-length, envelope-length}
@@ -98,42 +98,36 @@ module _ (s : List ℕ) (h : Header) (room : afterId h ≤ length s) where
     start : 9 + length (bytesIn s (idPlace (hasId h))) ≡ afterId h
     fits : idFits h (length (bytesIn s (idPlace (hasId h)))) ≡ true
 
+  id-long : length (bytesIn s (idPlace (hasId h))) ≡ cond (hasId h) 16 0
+  unfolding afterId
+  id-long = place-bytes s 9 (cond (hasId h) 16 0) room .0
+
   id-forth : Ided
   unfolding afterId
-  id-forth = go (hasId h) refl
+  id-forth =
+      record {
+        same = same (hasId h) refl;
+        holds = place-bytes s 9 (cond (hasId h) 16 0) room .1;
+        start = ap (λ (k : ℕ). 9 + k) id-long;
+        fits = ap (idFits h) id-long ∙ fits (hasId h);
+      }
     where
       nothing : (l : List ℕ) → length l ≡ 0 → l ≡ []
       nothing [] e = refl
       nothing (x ∷ l) e = let f : ⊥ = omega arith in absurd f
 
-      go : (t : Bool) → hasId h ≡ t → Ided
-      go true e =
-          let r : 9 + 16 ≤ length s = subst (λ (t : Bool). 9 + cond t 16 0 ≤ length s) e room in
-          let p = place-bytes s 9 16 r in
-          let q : idPlace (hasId h) ≡ place 9 16 = ap idPlace e in
-          let l : length (bytesIn s (idPlace (hasId h))) ≡ 16 = ap (λ (x : Place). length (bytesIn s x)) q ∙ p .0 in
-          record {
-            same = id-there h _ e;
-            holds = subst (λ (x : Place). Holds s 9 (bytesIn s x)) (sym q) (p .1);
-            start = ap (λ (k : ℕ). 9 + k) l ∙ sym (ap (λ (t : Bool). 9 + cond t 16 0) e);
-            fits = ap (λ (t : Bool). cond t (eqb (length (bytesIn s (idPlace (hasId h)))) 16) true) e ∙ eq-eqb (length (bytesIn s (idPlace (hasId h)))) 16 l;
-          }
-      go false e =
-          let r : 9 + 0 ≤ length s = subst (λ (t : Bool). 9 + cond t 16 0 ≤ length s) e room in
-          let p = place-bytes s 9 0 r in
-          let q : idPlace (hasId h) ≡ place 9 0 = ap idPlace e in
-          let l : length (bytesIn s (idPlace (hasId h))) ≡ 0 = ap (λ (x : Place). length (bytesIn s x)) q ∙ p .0 in
-          record {
-            same = id-none h _ e ∙ sym (nothing _ l);
-            holds = subst (λ (x : Place). Holds s 9 (bytesIn s x)) (sym q) (p .1);
-            start = ap (λ (k : ℕ). 9 + k) l ∙ sym (ap (λ (t : Bool). 9 + cond t 16 0) e);
-            fits = ap (λ (t : Bool). cond t (eqb (length (bytesIn s (idPlace (hasId h)))) 16) true) e;
-          }
+      same : (t : Bool) → hasId h ≡ t → idPart h (bytesIn s (idPlace (hasId h))) ≡ bytesIn s (idPlace (hasId h))
+      same true e = id-is h _ e
+      same false e = id-is h _ e ∙ sym (nothing _ (id-long ∙ ap (λ (t : Bool). cond t 16 0) e))
+
+      fits : (t : Bool) → cond t (eqb (cond t 16 0) 16) true ≡ true
+      fits true = refl
+      fits false = refl
 
 -- warnings, with the texts that they were read as
 module _ (s : List ℕ) (b : Bytes s) (h : Header) (at : ℕ) (room : at ≤ length s) {ws : Strings} {next : ℕ} (e : warningsAt s h at ≡ got ws next) where
   abbrev texts : List (List ℕ)
-  texts = textsOf s (stringsAt s (ws .count) (ws .start))
+  texts = textsOf s (stringsAt s (ws .left) (ws .at))
 
   record Warned : Type 0 where
     holds : Holds s at (warningsPart h (joined texts) (lengthsOf texts))
@@ -145,25 +139,25 @@ module _ (s : List ℕ) (b : Bytes s) (h : Header) (at : ℕ) (room : at ≤ len
     where
       go : (t : Bool) → hasWarnings h ≡ t → Warned
       go true w =
-          let r : ListRead s at (ws .count) (ws .start) next = list-forth s b at (sym (warnings-there s h at w) ∙ e) in
+          let r : ListRead s at (ws .left) (ws .at) next = list-forth s b at (sym (warnings-are s h at w) ∙ e) in
           let same : texts ≡ textsIn s (r .places) = ap (textsOf s) (r .met) in
           let st : Stands (listCheck (joined texts) (lengthsOf texts)) at (listBytes texts) s next =
           subst (λ (ts : List (List ℕ)). Stands (listCheck (joined ts) (lengthsOf ts)) at (listBytes ts) s next) (sym same) (r .stands)
           in
           let is : warningsPart h (joined texts) (lengthsOf texts) ≡ listBytes texts =
-          list-there h (joined texts) (lengthsOf texts) w ∙ ap listBytes (cut-joined texts)
+          list-is h (joined texts) (lengthsOf texts) w ∙ ap listBytes (cut-joined texts)
           in
           record {
             holds = subst (λ (l : List ℕ). Holds s at l) (sym is) (st .holds);
             end = st .end ∙ ap (λ (l : List ℕ). at + length l) (sym is);
-            fits = check-there h (joined texts) (lengthsOf texts) w ∙ st .nothing;
+            fits = check-is h (joined texts) (lengthsOf texts) w ∙ st .nothing;
           }
       go false w =
-          let is : warningsPart h (joined texts) (lengthsOf texts) ≡ [] = list-none h (joined texts) (lengthsOf texts) w in
+          let is : warningsPart h (joined texts) (lengthsOf texts) ≡ [] = list-is h (joined texts) (lengthsOf texts) w in
           record {
             holds = subst (λ (l : List ℕ). Holds s at l) (sym is) (none-there s at room);
-            end = sym (got-next (sym (warnings-none s h at w) ∙ e)) ∙ sym (ap (λ (l : List ℕ). at + length l) is ∙ add-zero at);
-            fits = check-none h (joined texts) (lengthsOf texts) w;
+            end = sym (got-next (sym (warnings-are s h at w) ∙ e)) ∙ sym (ap (λ (l : List ℕ). at + length l) is ∙ add-zero at);
+            fits = check-is h (joined texts) (lengthsOf texts) w;
           }
 
 -- ---- the whole
@@ -193,7 +187,7 @@ module _ (s : List ℕ) (b : Bytes s) {e : Envelope} (q : envelope s ≡ whole e
       subst (λ (k : ℕ). met .next ≤ k) l (warnings-end (take n s) h (afterId h) (subst (λ (k : ℕ). afterId h ≤ k) (sym l) (met .id)) (met .warnings))
 
   abbrev texts-here : List (List ℕ)
-  texts-here = textsOf s (stringsAt s (e .warnings .count) (e .warnings .start))
+  texts-here = textsOf s (stringsAt s (e .warnings .left) (e .warnings .at))
 
   abbrev id-here : List ℕ
   id-here = bytesIn s (idPlace (hasId h))

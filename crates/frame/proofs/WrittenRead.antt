@@ -1,4 +1,4 @@
--- An envelope that was written is read back as the fields that were given, wherever it stands and whatever follows it. Assumes nothing.
+-- An envelope that was written is read back as the fields that were given, whatever follows it. Assumes nothing.
 use Prim.Native.Nat.{ℕ, _+_, _*_, _-_, _/_, _%_, _≤_, _<_}
 use mathlib.Core.Path.{_≡_, refl, sym, ap, ap₂, _∙_, subst}
 use mathlib.Core.Bool.{Bool, true, false, cond, _&&_}
@@ -25,10 +25,10 @@ use Rattle.types.proofs.Reading.{natural-some}
 use Rattle.frame.specs.Header.{Header, headerOf, flag, hasId, hasWarnings, knownVersion}
 use Rattle.basis.specs.Front.{whole}
 use Rattle.frame.specs.Envelope.{declared, sizeOf, Envelope, envelopeWith, afterId, warningsAt, within, inside, envelope, idIn, bodyIn, warningsIn}
-use Rattle.frame.specs.Write.{Content, idPart, warningsPart, tailBytes, clearedFlags, headerBytes, envelopeBytes, envelopeCheck, cleared, textsPart}
+use Rattle.frame.specs.Write.{Content, idPart, warningsPart, tailBytes, headerBytes, envelopeBytes, envelopeCheck, cleared, textsPart}
 use Rattle.frame.specs.ThereAndBack.{ReadBack}
-use Rattle.frame.proofs.Cases.{fits, size-is, read, within-is, warnings-there, warnings-none, envelope-inside}
-use Rattle.frame.proofs.Checked.{Fits, fields-fit, version-small, list-there, list-none, check-there, tail-length}
+use Rattle.frame.proofs.Cases.{fits, size-is, read, within-is, warnings-are, envelope-is}
+use Rattle.frame.proofs.Checked.{Fits, fields-fit, version-small, list-is, check-is, tail-length}
 use Rattle.frame.proofs.Laid.{header-length, envelope-length}
 
 -- ---- flags without 01
@@ -56,7 +56,7 @@ module _ (h : Header) (n : ℕ) (q : List ℕ) (version : knownVersion (h .versi
 
   pub header-back : headerOf (headerBytes h n ++ q) ≡ cleared h
   unfolding headerOf headerBytes digits cleared
-  header-back = simp (by-seven (h .response), high (h .response), within-five, number)
+  header-back = simp (by-seven (h .response), high (h .response), within-five, stream-back)
     where
       by-seven : (t : Bool) → (h .version + cond t 128 0) % 128 ≡ h .version
       by-seven true = omega (arith, small)
@@ -69,8 +69,8 @@ module _ (h : Header) (n : ℕ) (q : List ℕ) (version : knownVersion (h .versi
       within-five : h .flags / 2 * 2 % 32 ≡ h .flags / 2 * 2
       within-five = omega (arith, flags)
 
-      number : toZ w16 (be (digits 2 (ofZ w16 (h .stream)))) ≡ h .stream
-      number = ap (toZ w16) (be-digits-fit 2 (ofZ w16 (h .stream)) (ofZ-fits w16 (h .stream) stream .fits)) ∙ toZ-ofZ w16 (h .stream) stream
+      stream-back : toZ w16 (be (digits 2 (ofZ w16 (h .stream)))) ≡ h .stream
+      stream-back = ap (toZ w16) (be-digits-fit 2 (ofZ w16 (h .stream)) (ofZ-fits w16 (h .stream) stream .fits)) ∙ toZ-ofZ w16 (h .stream) stream
 
 pub declared-back : (h : Header) (n : ℕ) (q : List ℕ) → n < 2147483648 → declared (headerBytes h n ++ q) ≡ some n
 unfolding declared headerBytes digits
@@ -84,10 +84,10 @@ stringsPart h c at = cond (hasWarnings h) (strings (length (c .lens)) (at + 2)) 
 
 module _ (h : Header) (c : Content) (fit : Fits h c) (s : List ℕ) (at : ℕ) (there : Holds s at (warningsPart h (c .text) (c .lens))) where
   listed : hasWarnings h ≡ true → Holds s at (listBytes (cutBy (c .text) (c .lens)))
-  listed w = subst (λ (l : List ℕ). Holds s at l) (list-there h (c .text) (c .lens) w) there
+  listed w = subst (λ (l : List ℕ). Holds s at l) (list-is h (c .text) (c .lens) w) there
 
   writable : hasWarnings h ≡ true → listCheck (c .text) (c .lens) ≡ fine
-  writable w = sym (check-there h (c .text) (c .lens) w) ∙ fit .warnings
+  writable w = sym (check-is h (c .text) (c .lens) w) ∙ fit .warnings
 
   pub warnings-back : warningsAt s (cleared h) at ≡ got (stringsPart h c at) (at + length (warningsPart h (c .text) (c .lens)))
   unfolding stringsPart
@@ -96,23 +96,23 @@ module _ (h : Header) (c : Content) (fit : Fits h c) (s : List ℕ) (at : ℕ) (
       go : (t : Bool) → hasWarnings h ≡ t
           → warningsAt s (cleared h) at ≡ got (cond (hasWarnings h) (strings (length (c .lens)) (at + 2)) (strings 0 at)) (at + length (warningsPart h (c .text) (c .lens)))
       go true w =
-          warnings-there s (cleared h) at (cleared-warnings h ∙ w)
+          warnings-are s (cleared h) at (cleared-warnings h ∙ w)
           ∙ list-back (c .text) (c .lens) (writable w) s at (listed w)
           ∙ ap₂ (λ (x : Strings) (k : ℕ). got x (at + k))
           (sym (ap (λ (t : Bool). cond t (strings (length (c .lens)) (at + 2)) (strings 0 at)) w))
-          (ap length (sym (list-there h (c .text) (c .lens) w)))
+          (ap length (sym (list-is h (c .text) (c .lens) w)))
       go false w =
-          warnings-none s (cleared h) at (cleared-warnings h ∙ w)
+          warnings-are s (cleared h) at (cleared-warnings h ∙ w)
           ∙ ap₂ (λ (x : Strings) (k : ℕ). got x k)
           (sym (ap (λ (t : Bool). cond t (strings (length (c .lens)) (at + 2)) (strings 0 at)) w))
-          (sym (ap (λ (l : List ℕ). at + length l) (list-none h (c .text) (c .lens) w) ∙ add-zero at))
+          (sym (ap (λ (l : List ℕ). at + length l) (list-is h (c .text) (c .lens) w) ∙ add-zero at))
 
-  pub texts-back : textsOf s (stringsAt s (stringsPart h c at .count) (stringsPart h c at .start)) ≡ textsPart h c
+  pub texts-back : textsOf s (stringsAt s (stringsPart h c at .left) (stringsPart h c at .at)) ≡ textsPart h c
   unfolding stringsPart textsPart stringsAt textsIn
   texts-back = go (hasWarnings h) refl
     where
       go : (t : Bool) → hasWarnings h ≡ t
-          → textsOf s (stringsAt s (cond t (strings (length (c .lens)) (at + 2)) (strings 0 at) .count) (cond t (strings (length (c .lens)) (at + 2)) (strings 0 at) .start))
+          → textsOf s (stringsAt s (cond t (strings (length (c .lens)) (at + 2)) (strings 0 at) .left) (cond t (strings (length (c .lens)) (at + 2)) (strings 0 at) .at))
           ≡ cond t (cutBy (c .text) (c .lens)) []
       go true w =
           let all = list-texts (c .text) (c .lens) (writable w) s at (listed w) in
@@ -211,7 +211,7 @@ module _ (h : Header) (c : Content) (fit : Fits h c) (stream : SFits w16 (h .str
 
   envelope-back : (q : List ℕ) → envelope (envelopeBytes h c ++ q) ≡ whole (envelopeBack h c)
   envelope-back q =
-      envelope-inside (envelopeBytes h c ++ q) (size-here q)
+      envelope-is (envelopeBytes h c ++ q) (size-here q)
       ∙ ap inside (take-at (envelopeBytes h c) q (9 + length (tailBytes h c)) (envelope-length h c))
       ∙ inside-back
 

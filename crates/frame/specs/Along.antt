@@ -12,6 +12,6 @@ use Rattle.frame.specs.Envelope.{Envelope, warningsIn}
 pub record Walked (s : List ℕ) (e : Envelope) : Type 0 where
   pub places : List Place
   pub end : ℕ
-  pub walks : Walks s (e .warnings .count) (e .warnings .start) places (got tt end)
-  pub many : length places ≡ e .warnings .count
+  pub walks : Walks s (e .warnings .left) (e .warnings .at) places (got tt end)
+  pub many : length places ≡ e .warnings .left
   pub texts : textsIn s places ≡ warningsIn s e

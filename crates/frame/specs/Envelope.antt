@@ -1,7 +1,7 @@
 -- What stands at the front of some bytes: docs/RULES.md, 4.8 to 4.13. Assumes nothing.
 use Prim.Native.Nat.{ℕ, _+_, _-_}
 use mathlib.Core.Bool.{Bool, cond}
-use mathlib.Core.List.{List, []}
+use mathlib.Core.List.{List}
 use mathlib.Core.Option.{Option, none, some}
 use lib.Dec.{ltb}
 use lib.IntN.{ℤ, pos, negℤ}
@@ -92,4 +92,4 @@ bodyIn s e = bytesIn s (e .body)
 
 -- the texts of its warnings
 unfoldable pub warningsIn : List ℕ → Envelope → List (List ℕ)
-warningsIn s e = textsOf s (stringsAt s (e .warnings .count) (e .warnings .start))
+warningsIn s e = textsOf s (stringsAt s (e .warnings .left) (e .warnings .at))

@@ -67,7 +67,7 @@ pub(crate) fn read_header(bytes: &[u8]) -> Header
 {
     let first = bytes[0];
     let flags = bytes[1];
-    let bits = inner::number(bytes, 2, 2);
+    let bits = inner::read_number(bytes, 2, 2);
     let stream = number::signed16(bits as u16);
     let opcode = bytes[4];
     let direction = direction_of(first);

@@ -31,7 +31,7 @@ pub fn envelope_size(bytes: &[u8]) -> Size
     if bytes.len() < HEADER_LEN {
         return Size::Incomplete;
     }
-    let declared = inner::number(bytes, 5, 4);
+    let declared = inner::read_number(bytes, 5, 4);
     if 0x8000_0000 <= declared {
         return Size::Refused(Refusal::NegativeLength);
     }

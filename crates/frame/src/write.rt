@@ -143,18 +143,10 @@ fn put_header(out: &mut [u8], header: Header, n: usize)
     let opcode = header.opcode;
     let first = first_byte(header);
     let bits = number::bits16(header.stream);
-    // Flag 01 is cleared; numbers begin with their highest byte.
-    let bytes = [
-        first,
-        flags / 2 * 2,
-        (bits / 256 % 256) as u8,
-        (bits % 256) as u8,
-        opcode,
-        (n / 256 / 256 / 256 % 256) as u8,
-        (n / 256 / 256 % 256) as u8,
-        (n / 256 % 256) as u8,
-        (n % 256) as u8,
-    ];
+    // Flag 01 is cleared.
+    let mut bytes = [first, flags / 2 * 2, 0, 0, opcode, 0, 0, 0, 0];
+    inner::put_number(&mut bytes, 2, 2, bits as u64);
+    inner::put_number(&mut bytes, 5, 4, n as u64);
     inner::put_bytes(out, 0, &bytes);
 }
 

@@ -69,7 +69,7 @@ buffer-is code-buffer.Buffer.Segment = refl
 buffer-is code-buffer.Buffer.Reassembly = refl
 
 answerFrom : Answer → code-answer.Answer
-answerFrom (envelopeAt b p e) = code-answer.Answer.Envelope (bufferFrom b) (record { start = p .start; len = p .count }) (envelope-told .back e)
+answerFrom (envelopeAt b p e) = code-answer.Answer.Envelope (bufferFrom b) (record { start = p .start; len = p .len }) (envelope-told .back e)
 answerFrom (leftover n) = code-answer.Answer.Leftover n
 answerFrom more = code-answer.Answer.More
 answerFrom (refused why) = code-answer.Answer.Refused (caseOf why)

@@ -11,7 +11,7 @@ use Rattle.crc.specs.Check32.{crc32}
 use Rattle.types.specs.Number.{part}
 use Rattle.types.specs.Write.{put}
 use Rattle.types.proofs.BigEndian.{length-part}
-use Rattle.types.proofs.Put.{length-front, length-put, put-then}
+use Rattle.types.proofs.Put.{length-to-end, length-put, put-then}
 use Rattle.types.specs.ThereAndBack.{Holds}
 use Rattle.types.proofs.Holds.{holds-part, holds-put, put-same}
 use Rattle.segment.specs.LittleEndian.{leDigits}
@@ -24,7 +24,7 @@ use Rattle.segment.proofs.HeaderLaid.{header-length}
 pub drop-put : (out : List ℕ) (at : ℕ) (a : List ℕ) (from : ℕ) → at + length a ≤ from → at + length a ≤ length out → drop from (put out at a) ≡ drop from out
 unfolding put
 drop-put out at a from h room =
-    let f : length (take at out ++ a) ≡ at + length a = length-front out at a (omega arith) in
+    let f : length (take at out ++ a) ≡ at + length a = length-to-end out at a (omega arith) in
     let j : ℕ = from - (at + length a) in
     let e : at + length a + j ≡ from = omega arith in
     ap (λ (k : ℕ). drop k (put out at a)) (sym e)
@@ -72,10 +72,10 @@ module _ (f : Form) (self : Bool) (out : List ℕ) (n : ℕ) (room : segmentLeng
       let l : length m ≡ length out = ap length e ∙ length-put out 0 h (omega (arith, zero-add (length h), head)) in
       subst (λ (x : List ℕ). Holds m (headerLength f) x) same (holds-part m (headerLength f) n (omega arith))
 
-  pub closed : {check : ℕ} {m l : List ℕ} → m ≡ put out 0 h → check ≡ crc32 p → l ≡ put m (headerLength f + n) (leDigits trailerLength check)
+  pub closed : {k check : ℕ} {m l : List ℕ} → k ≡ headerLength f → m ≡ put out 0 h → check ≡ crc32 (part out k n) → l ≡ put m (k + n) (leDigits trailerLength check)
       → l ≡ put out 0 (segmentBytes f self p)
   unfolding segmentBytes
-  closed {check} {m} {l} e c q =
+  closed {m = m} i e c q =
       let t : length (trailerBytes p) ≡ trailerLength = length-le trailerLength (crc32 p) in
       let hp : length (h ++ p) ≡ length h + length p = length-append h p in
       let k : 0 + headerLength f ≡ headerLength f = zero-add (headerLength f) in
@@ -84,7 +84,7 @@ module _ (f : Form) (self : Bool) (out : List ℕ) (n : ℕ) (room : segmentLeng
       put-then out 0 h p (headerLength f) head (omega (arith, k, payload)) e (sym (ap (λ (i : ℕ). put m i p) k ∙ put-same m (headerLength f) p (payload-stays e)))
       in
       put-then out 0 (h ++ p) (trailerBytes p) (headerLength f + n) (omega (arith, hp, head, payload)) (omega (arith, z, t)) two
-      (q ∙ ap₂ (λ (i x : ℕ). put m i (leDigits trailerLength x)) (sym z) c)
+      (q ∙ ap₂ (λ (i x : ℕ). put m i (leDigits trailerLength x)) (ap (λ (j : ℕ). j + n) i ∙ sym z) (c ∙ ap (λ (j : ℕ). crc32 (part out j n)) i))
       ∙ ap (put out 0) (append-assoc h p (trailerBytes p) ∙ ap (λ (x : ℕ). headerBytes f (header x 0 self) ++ (p ++ trailerBytes p)) (sym payload))
 
 -- a payload that was just written, closed: no trace of the two steps

@@ -17,7 +17,7 @@ use Rattle.types.proofs.Holds.{holds-put}
 use Rattle.segment.specs.Header.{Form, headerLength}
 use Rattle.segment.specs.Segment.{maxPayload, segmentLength, segmentBytes, Run, no-segment, one-segment}
 use Rattle.segment.proofs.WrittenRead.{segment-back}
-use Rattle.frame_encoder.specs.Writer.{Writer, writer, fresh, Reply, wrote, refused, Done, done, unless, addCheck, add, finishCheck, finish, pieceOf, pieceCheck, piece}
+use Rattle.frame_encoder.specs.Writer.{Writer, writer, fresh, wrote, refused, Done, done, unless, addCheck, add, finishCheck, finish, pieceOf, pieceCheck, piece}
 use Rattle.frame_encoder.specs.Runs.{Added, none-added, one-added, Split, all-sent, one-sent, Sent}
 use Rattle.frame_encoder.proofs.Checked.{AddFine, add-fine, FinishFine, finish-fine, PieceFine, piece-fine, piece-most, piece-some, unless-fine}
 use Rattle.frame_encoder.proofs.Laid.{segment-length, piece-laid}
@@ -33,20 +33,12 @@ pub passed : (c : Check) (w : Writer) (out : List ℕ) (d : Done) {v : Writer} {
 passed fine w out d e = (refl, e)
 passed (against why) w out d e = absurd (wrote-refused (ap (λ (x : Done). x .reply) e))
 
--- the size that is answered
+-- the size that is answered, and how much was taken
 sized : {v w : Writer} {m n a b : ℕ} {out end : List ℕ} → done v (wrote m a) out ≡ done w (wrote n b) end → n ≡ m
-sized {m = m} e = sym (ap (λ (d : Done). size (d .reply)) e)
-  where
-    size : Reply → ℕ
-    size (wrote n b) = n
-    size (refused why) = m
+sized e = cc (ap (λ (d : Done). d .reply) e)
 
 taken-is : {v w : Writer} {m n a b : ℕ} {out end : List ℕ} → done v (wrote m a) out ≡ done w (wrote n b) end → b ≡ a
-taken-is {a = a} e = sym (ap (λ (d : Done). taken (d .reply)) e)
-  where
-    taken : Reply → ℕ
-    taken (wrote n b) = b
-    taken (refused why) = a
+taken-is e = cc (ap (λ (d : Done). d .reply) e)
 
 -- ---- envelopes packed into a segment
 

@@ -38,7 +38,7 @@ pub struct Step {
     pub answer: Encoded,
 }
 
-// How long a segment with this payload is, in an output of len bytes; the payload is not longer than a segment's.
+// A segment with this payload, which is not longer than a segment's, has room in an output of len bytes.
 fn has_room(form: Form, len: usize, payload: usize) -> bool
     requires { ⌜ payload ≤ 131071 ⌝ }
     ensures { λ r. ⌜ r ≡ leb (segmentLength (paperForm form) payload) len ⌝ }

@@ -1,6 +1,6 @@
 -- The definitions of reading, case by case: each case says what holds where it is met, and what holds says the case. Assumes nothing.
 use Prim.Native.Nat.{ℕ, _+_, _≤_, _<_}
-use mathlib.Core.Path.{_≡_, refl, sym, ap, _∙_, subst}
+use mathlib.Core.Path.{_≡_, refl, sym, ap, ap₂, _∙_, subst}
 use mathlib.Core.Bool.{Bool, true, false, cond}
 use mathlib.Core.List.{List}
 use borrow.Author.Tests.{lt-ltb, le-ltb, ltb-true, ltb-false}
@@ -27,19 +27,18 @@ pub data Headers (f : Form) (s : List ℕ) : Front Refusal Header → Type 0 whe
   head-good : headerLength f ≤ length s → checked f s ≡ true → eqb (fieldsAt f s .uncompressed) 0 ≡ true → Headers f s (whole (fieldsAt f s))
 
 module _ (f : Form) (s : List ℕ) where
-  there : headerLength f ≤ length s → headerAt f s ≡ cond (checked f s) (uncompressedOnly (fieldsAt f s)) (refuses headerCheckDiffers)
+  by-room : {t : Bool} → ltb (length s) (headerLength f) ≡ t → headerAt f s ≡ cond t incomplete (cond (checked f s) (uncompressedOnly (fieldsAt f s)) (refuses headerCheckDiffers))
   unfolding headerAt
-  there h = ap (λ (t : Bool). cond t incomplete (cond (checked f s) (uncompressedOnly (fieldsAt f s)) (refuses headerCheckDiffers))) (le-ltb (length s) (headerLength f) h)
+  by-room l = ap (λ (t : Bool). cond t incomplete (cond (checked f s) (uncompressedOnly (fieldsAt f s)) (refuses headerCheckDiffers))) l
 
-  passed : headerLength f ≤ length s → checked f s ≡ true → headerAt f s ≡ uncompressedOnly (fieldsAt f s)
-  passed h c = there h ∙ ap (λ (t : Bool). cond t (uncompressedOnly (fieldsAt f s)) (refuses headerCheckDiffers)) c
+  there : headerLength f ≤ length s → {t : Bool} → checked f s ≡ t → headerAt f s ≡ cond t (uncompressedOnly (fieldsAt f s)) (refuses headerCheckDiffers)
+  there h c = by-room (le-ltb (length s) (headerLength f) h) ∙ ap (λ (t : Bool). cond t (uncompressedOnly (fieldsAt f s)) (refuses headerCheckDiffers)) c
 
   pub header-is : {r : Front Refusal Header} → Headers f s r → headerAt f s ≡ r
-  unfolding headerAt
-  header-is (head-cut h) = ap (λ (t : Bool). cond t incomplete (cond (checked f s) (uncompressedOnly (fieldsAt f s)) (refuses headerCheckDiffers))) (lt-ltb (length s) (headerLength f) h)
-  header-is (head-differs h c) = there h ∙ ap (λ (t : Bool). cond t (uncompressedOnly (fieldsAt f s)) (refuses headerCheckDiffers)) c
-  header-is (head-compressed h c u) = passed h c ∙ ap (λ (t : Bool). cond t (whole (fieldsAt f s)) (refuses payloadCompressed)) u
-  header-is (head-good h c u) = passed h c ∙ ap (λ (t : Bool). cond t (whole (fieldsAt f s)) (refuses payloadCompressed)) u
+  header-is (head-cut h) = by-room (lt-ltb (length s) (headerLength f) h)
+  header-is (head-differs h c) = there h c
+  header-is (head-compressed h c u) = there h c ∙ ap (λ (t : Bool). cond t (whole (fieldsAt f s)) (refuses payloadCompressed)) u
+  header-is (head-good h c u) = there h c ∙ ap (λ (t : Bool). cond t (whole (fieldsAt f s)) (refuses payloadCompressed)) u
 
   pub header-case : Headers f s (headerAt f s)
   header-case = by-length (ltb (length s) (headerLength f)) refl
@@ -73,17 +72,15 @@ pub data Payloads (f : Form) (s : List ℕ) (h : Header) : Front Refusal Segment
   payload-good : segmentLength f (h .payload) ≤ length s → trailed f s h ≡ true → Payloads f s h (whole (segment (h .self) (payloadIn f s h)))
 
 module _ (f : Form) (s : List ℕ) (h : Header) where
-  complete : segmentLength f (h .payload) ≤ length s → payloadAt f s h ≡ cond (trailed f s h) (whole (segment (h .self) (payloadIn f s h))) (refuses payloadCheckDiffers)
+  judged : {t u : Bool} → ltb (length s) (segmentLength f (h .payload)) ≡ t → trailed f s h ≡ u
+      → payloadAt f s h ≡ cond t incomplete (cond u (whole (segment (h .self) (payloadIn f s h))) (refuses payloadCheckDiffers))
   unfolding payloadAt
-  complete l =
-      ap (λ (t : Bool). cond t incomplete (cond (trailed f s h) (whole (segment (h .self) (payloadIn f s h))) (refuses payloadCheckDiffers))) (le-ltb (length s) (segmentLength f (h .payload)) l)
+  judged l c = ap₂ (λ (t u : Bool). cond t incomplete (cond u (whole (segment (h .self) (payloadIn f s h))) (refuses payloadCheckDiffers))) l c
 
   pub payload-is : {r : Front Refusal Segment} → Payloads f s h r → payloadAt f s h ≡ r
-  unfolding payloadAt
-  payload-is (payload-cut l) =
-      ap (λ (t : Bool). cond t incomplete (cond (trailed f s h) (whole (segment (h .self) (payloadIn f s h))) (refuses payloadCheckDiffers))) (lt-ltb (length s) (segmentLength f (h .payload)) l)
-  payload-is (payload-differs l c) = complete l ∙ ap (λ (t : Bool). cond t (whole (segment (h .self) (payloadIn f s h))) (refuses payloadCheckDiffers)) c
-  payload-is (payload-good l c) = complete l ∙ ap (λ (t : Bool). cond t (whole (segment (h .self) (payloadIn f s h))) (refuses payloadCheckDiffers)) c
+  payload-is (payload-cut l) = judged (lt-ltb (length s) (segmentLength f (h .payload)) l) refl
+  payload-is (payload-differs l c) = judged (le-ltb (length s) (segmentLength f (h .payload)) l) c
+  payload-is (payload-good l c) = judged (le-ltb (length s) (segmentLength f (h .payload)) l) c
 
   pub payload-case : Payloads f s h (payloadAt f s h)
   payload-case = by-length (ltb (length s) (segmentLength f (h .payload))) refl

@@ -6,7 +6,7 @@ use native.Mathlib.Nat.{mod-eq-of-lt}
 use native.Mathlib.Omega.{arith}
 use borrow.Author.Tests.{eq-eqb, ne-eqb, eqb-true, eqb-false}
 use lib.Dec.{eqb}
-use Rattle.segment.specs.Header.{Form, short, long, Header, header, lengths, numberLength, selfWeight, uncompressedOf, uncompressedPart, fieldsOf, numberOf}
+use Rattle.segment.specs.Header.{Form, short, long, Header, header, lengths, numberLength, selfWeight, uncompressedOf, uncompressedPart, fieldsOf, headerNumber}
 use Rattle.segment.specs.ThereAndBack.{Fits, usedBits}
 
 pub number-most : (f : Form) → numberLength f ≤ 5
@@ -26,8 +26,8 @@ pub part-most : (f : Form) (n : ℕ) → uncompressedPart f n < 2 ^ 34
 part-most short n = omega arith
 part-most long n = omega arith
 
-pub number-below : (f : Form) (h : Header) → numberOf f h < usedBits f
-unfolding numberOf
+pub number-below : (f : Form) (h : Header) → headerNumber f h < usedBits f
+unfolding headerNumber
 number-below f h = go f (h .self)
   where
     go : (f : Form) (t : Bool) → h .payload % lengths + uncompressedPart f (h .uncompressed) + cond t (selfWeight f) 0 < usedBits f
@@ -65,8 +65,8 @@ middle-alone a b h k =
 same : {a b c d : ℕ} {s t : Bool} → a ≡ b → c ≡ d → s ≡ t → header a c s ≡ header b d t
 same {b = b} {c = c} {s = s} p q r = ap (λ (x : ℕ). header x c s) p ∙ ap (λ (y : ℕ). header b y s) q ∙ ap (header b _) r
 
-pub fields-back : (f : Form) (h : Header) → Fits f h → fieldsOf f (numberOf f h) ≡ h
-unfolding fieldsOf numberOf
+pub fields-back : (f : Form) (h : Header) → Fits f h → fieldsOf f (headerNumber f h) ≡ h
+unfolding fieldsOf headerNumber
 fields-back f h fit = go f (h .self) refl (fit .none)
   where
     go : (f : Form) (t : Bool) → h .self ≡ t → (f ≡ short → h .uncompressed ≡ 0)
@@ -100,8 +100,8 @@ fields-back f h fit = go f (h .self) refl (fit .none)
 
 -- ---- read, then written: unused bits are 0
 
-pub number-forth : (f : Form) (x : ℕ) → x < usedBits f → numberOf f (fieldsOf f x) ≡ x
-unfolding fieldsOf numberOf
+pub number-forth : (f : Form) (x : ℕ) → x < usedBits f → headerNumber f (fieldsOf f x) ≡ x
+unfolding fieldsOf headerNumber
 number-forth short x h = go (eqb (x / 131072 % 2) 1) refl
   where
     go : (t : Bool) → eqb (x / 131072 % 2) 1 ≡ t → x % lengths % lengths + 0 + cond t 131072 0 ≡ x

@@ -1,5 +1,5 @@
 -- A header or a segment that was read, and whose unused bits are 0, is written back to its bytes. Assumes nothing.
-use Prim.Native.Nat.{ℕ, _+_, _≤_, _<_}
+use Prim.Native.Nat.{ℕ, _+_, _≤_}
 use mathlib.Core.Path.{_≡_, refl, sym, ap, ap₂, _∙_, subst}
 use mathlib.Core.Bool.{true}
 use mathlib.Core.List.{List, _++_}
@@ -16,10 +16,10 @@ use Rattle.refusal.specs.Refusal.{Refusal}
 use Rattle.types.specs.Number.{part}
 use Rattle.types.proofs.BigEndian.{length-part, bytes-part, bytes-take}
 use Rattle.segment.specs.LittleEndian.{le, leDigits}
-use Rattle.segment.specs.Header.{Form, Header, header, numberLength, checkLength, headerLength, numberOf, headerNumber, headerBytes}
+use Rattle.segment.specs.Header.{Form, Header, header, numberLength, checkLength, headerLength, headerNumber, numberBytes, headerBytes}
 use Rattle.segment.specs.Segment.{trailerLength, trailerBytes, segmentBytes, checked, headerAt, Segment, segment, segmentLength, payloadAt, segmentAt}
 use Rattle.segment.proofs.LittleEndian.{digits-le}
-use Rattle.segment.specs.ThereAndBack.{usedBits, UnusedZero}
+use Rattle.segment.specs.ThereAndBack.{UnusedZero}
 use Rattle.segment.proofs.HeaderBits.{number-forth}
 use Rattle.segment.proofs.Cases.{fieldsAt, Headers, head-cut, head-differs, head-compressed, head-good, header-case, payloadIn, Payloads, payload-cut, payload-differs, payload-good, payload-case}
 
@@ -45,14 +45,14 @@ header-found f s {h} e = go (header-case f s) e
 
 module _ (f : Form) (s : List ℕ) (b : Bytes s) (unused : UnusedZero f s) where
   pub header-forth : {h : Header} → headerAt f s ≡ whole h → headerBytes f h ≡ take (headerLength f) s
-  unfolding headerBytes headerNumber
+  unfolding headerBytes numberBytes
   header-forth {h} e =
       let g : HeaderFound f s h = header-found f s e in
       let n : ℕ = numberLength f in
       let r : n + checkLength ≤ length s = g .room in
       let front : length (take n s) ≡ n = length-take-le n s (omega arith) in
-      let number : numberOf f h ≡ le (take n s) = ap (numberOf f) (sym (g .is)) ∙ number-forth f (le (take n s)) unused in
-      let bytes : leDigits n (numberOf f h) ≡ take n s = ap (leDigits n) number ∙ digits-le n (take n s) front (bytes-take n s b) in
+      let number : headerNumber f h ≡ le (take n s) = ap (headerNumber f) (sym (g .is)) ∙ number-forth f (le (take n s)) unused in
+      let bytes : leDigits n (headerNumber f h) ≡ take n s = ap (leDigits n) number ∙ digits-le n (take n s) front (bytes-take n s b) in
       let check : le (part s n checkLength) ≡ crc24 (take n s) = eqb-true (le (part s n checkLength)) (crc24 (take n s)) (g .check) in
       let behind : leDigits checkLength (crc24 (take n s)) ≡ part s n checkLength =
       ap (leDigits checkLength) (sym check) ∙ digits-le checkLength (part s n checkLength) (length-part s n checkLength r) (bytes-part s n checkLength b)

@@ -19,7 +19,7 @@ use Rattle.types.specs.Number.{part}
 use Rattle.types.specs.ThereAndBack.{Holds}
 use Rattle.types.proofs.Holds.{holds-left, holds-right}
 use Rattle.segment.specs.LittleEndian.{le, leDigits}
-use Rattle.segment.specs.Header.{Form, Header, header, numberLength, checkLength, headerLength, fieldsOf, numberOf, headerNumber, headerBytes}
+use Rattle.segment.specs.Header.{Form, Header, header, numberLength, checkLength, headerLength, fieldsOf, headerNumber, numberBytes, headerBytes}
 use Rattle.segment.specs.Segment.{trailerLength, maxPayload, trailerBytes, segmentBytes, checked, headerAt, segment, payloadAt, segmentAt}
 use Rattle.segment.proofs.LittleEndian.{length-le, bytes-le, le-digits-fit}
 use Rattle.segment.specs.ThereAndBack.{Fits}
@@ -30,31 +30,31 @@ use Rattle.segment.proofs.Cases.{fieldsAt, head-good, header-is, payloa
 -- ---- the header
 
 module _ (f : Form) (h : Header) (s : List ℕ) (there : Holds s 0 (headerBytes f h)) where
-  number-there : take (numberLength f) s ≡ headerNumber f h
+  number-there : take (numberLength f) s ≡ numberBytes f h
   unfolding headerBytes
   number-there =
-      ap (λ (k : ℕ). take k s) (sym (number-length f h)) ∙ holds-left s 0 (headerNumber f h) (leDigits checkLength (crc24 (headerNumber f h))) there .is
+      ap (λ (k : ℕ). take k s) (sym (number-length f h)) ∙ holds-left s 0 (numberBytes f h) (leDigits checkLength (crc24 (numberBytes f h))) there .is
 
-  check-there : part s (numberLength f) checkLength ≡ leDigits checkLength (crc24 (headerNumber f h))
+  check-there : part s (numberLength f) checkLength ≡ leDigits checkLength (crc24 (numberBytes f h))
   unfolding headerBytes
   check-there =
-      ap₂ (λ (i k : ℕ). part s i k) (sym (zero-add (length (headerNumber f h)) ∙ number-length f h)) (sym (length-le checkLength (crc24 (headerNumber f h))))
-      ∙ holds-right s 0 (headerNumber f h) (leDigits checkLength (crc24 (headerNumber f h))) there .is
+      ap₂ (λ (i k : ℕ). part s i k) (sym (zero-add (length (numberBytes f h)) ∙ number-length f h)) (sym (length-le checkLength (crc24 (numberBytes f h))))
+      ∙ holds-right s 0 (numberBytes f h) (leDigits checkLength (crc24 (numberBytes f h))) there .is
 
-  number-bytes : Bytes (headerNumber f h)
-  unfolding headerNumber
-  number-bytes = bytes-le (numberLength f) (numberOf f h)
+  number-bytes : Bytes (numberBytes f h)
+  unfolding numberBytes
+  number-bytes = bytes-le (numberLength f) (headerNumber f h)
 
   check-holds : checked f s ≡ true
   check-holds =
       eq-eqb (le (part s (numberLength f) checkLength)) (crc24 (take (numberLength f) s))
-      (ap le check-there ∙ le-digits-fit checkLength (crc24 (headerNumber f h)) (crc24-below (headerNumber f h) number-bytes) ∙ ap crc24 (sym number-there))
+      (ap le check-there ∙ le-digits-fit checkLength (crc24 (numberBytes f h)) (crc24-below (numberBytes f h) number-bytes) ∙ ap crc24 (sym number-there))
 
   fields-there : Fits f h → fieldsAt f s ≡ h
-  unfolding headerNumber
+  unfolding numberBytes
   fields-there fit =
       ap (λ (l : List ℕ). fieldsOf f (le l)) number-there
-      ∙ ap (fieldsOf f) (le-digits-fit (numberLength f) (numberOf f h) (lt-of-lt-of-le (number-below f h) (used-within f)))
+      ∙ ap (fieldsOf f) (le-digits-fit (numberLength f) (headerNumber f h) (lt-of-lt-of-le (number-below f h) (used-within f)))
       ∙ fields-back f h fit
 
   pub header-back : Fits f h → h .uncompressed ≡ 0 → headerAt f s ≡ whole h

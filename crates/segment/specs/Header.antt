@@ -55,11 +55,11 @@ abbrev pub uncompressedPart : Form → ℕ → ℕ
 uncompressedPart short n = 0
 uncompressedPart long n = n % lengths * lengths
 
-unfoldable pub numberOf : Form → Header → ℕ
-numberOf form h = h .payload % lengths + uncompressedPart form (h .uncompressed) + cond (h .self) (selfWeight form) 0
+unfoldable pub headerNumber : Form → Header → ℕ
+headerNumber form h = h .payload % lengths + uncompressedPart form (h .uncompressed) + cond (h .self) (selfWeight form) 0
 
-unfoldable pub headerNumber : Form → Header → List ℕ
-headerNumber form h = leDigits (numberLength form) (numberOf form h)
+unfoldable pub numberBytes : Form → Header → List ℕ
+numberBytes form h = leDigits (numberLength form) (headerNumber form h)
 
 unfoldable pub headerBytes : Form → Header → List ℕ
-headerBytes form h = headerNumber form h ++ leDigits checkLength (crc24 (headerNumber form h))
+headerBytes form h = numberBytes form h ++ leDigits checkLength (crc24 (numberBytes form h))

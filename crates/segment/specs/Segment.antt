@@ -35,7 +35,7 @@ segmentBytes form self payload = headerBytes form (header (length payload) 0 sel
 abbrev pub uncompressedOnly : Header → Front Refusal Header
 uncompressedOnly h = cond (eqb (h .uncompressed) 0) (whole h) (refuses payloadCompressed)
 
--- the number's bytes, the check behind them, and the number
+-- the check behind the number is that of its bytes
 abbrev pub checked : Form → List ℕ → Bool
 checked form s = eqb (le (part s (numberLength form) checkLength)) (crc24 (take (numberLength form) s))
 

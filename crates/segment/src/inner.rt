@@ -12,14 +12,8 @@ use crate::Form;
 use crate::Header;
 use crc::crc24;
 
-fn wide(x: u8) -> u64
-    ensures { λ r. ⌜ r ≡ x ⌝ }
-{
-    x as u64
-}
-
 // The number of the n bytes from at on, the last byte first.
-pub fn number(bytes: &[u8], at: usize, n: usize) -> u64
+pub fn read_number(bytes: &[u8], at: usize, n: usize) -> u64
     requires { ⌜ (n ≤ 8) × (at + n ≤ length (now bytes)) ⌝ }
     ensures { λ r. ⌜ (r ≡ le (part (now (bytes .entry)) at n)) × (r < 256 ^ n) ⌝ }
 {
@@ -27,7 +21,7 @@ pub fn number(bytes: &[u8], at: usize, n: usize) -> u64
     let mut left = n;
     while 0 < left {
         left -= 1;
-        let b = wide(bytes[at + left]);
+        let b = bytes[at + left] as u64;
         value = value * 256 + b;
     }
     value
@@ -53,7 +47,7 @@ pub fn put_header(out: &mut [u8], form: Form, header: Header)
     ensures { λ _. ⌜ now (out .exit) ≡ put (now (out .entry)) 0 (headerBytes (paperForm form) (paperHeader header)) ⌝ }
 {
     let n = crate::number_len(form);
-    let x = crate::number(form, header);
+    let x = crate::header_number(form, header);
     put_number(out, 0, n, x);
     let check = crc24(&out[..n]);
     put_number(out, n, CHECK_LEN, check as u64);

@@ -7,7 +7,7 @@ ghost use lib.ListN.{length};
 ghost use Rattle.crc.specs.Check32.{crc32};
 ghost use Rattle.types.specs.Number.{part};
 ghost use Rattle.segment.specs.LittleEndian.{le};
-ghost use Rattle.segment.specs.Header.{numberLength, headerLength, selfWeight, uncompressedOf, uncompressedPart, fieldsOf, numberOf};
+ghost use Rattle.segment.specs.Header.{numberLength, headerLength, selfWeight, uncompressedOf, uncompressedPart, fieldsOf, headerNumber};
 ghost use Rattle.segment.specs.Segment.{trailerLength, checked, headerAt, behind, payloadAt};
 ghost use Rattle.segment.specs.Paper.{paperForm, paperHeader, paperReadHeader, paperReadPayload};
 use crc::crc24;
@@ -121,8 +121,8 @@ fn self_part(form: Form, self_contained: bool) -> u64
 }
 
 // The number of a header with these fields; unused bits are 0, and of a length the lowest 17 bits count.
-pub fn number(form: Form, header: Header) -> u64
-    ensures { λ r. ⌜ r ≡ numberOf (paperForm form) (paperHeader header) ⌝ }
+pub fn header_number(form: Form, header: Header) -> u64
+    ensures { λ r. ⌜ r ≡ headerNumber (paperForm form) (paperHeader header) ⌝ }
 {
     let payload = header.payload as u64 % LENGTHS;
     let uncompressed = uncompressed_part(form, header.uncompressed);
@@ -136,7 +136,7 @@ fn check_holds(form: Form, bytes: &[u8]) -> bool
     ensures { λ r. ⌜ r ≡ checked (paperForm form) (now (bytes .entry)) ⌝ }
 {
     let n = number_len(form);
-    let read = inner::number(bytes, n, CHECK_LEN);
+    let read = inner::read_number(bytes, n, CHECK_LEN);
     let computed = crc24(&bytes[..n]);
     read == computed as u64
 }
@@ -149,7 +149,7 @@ pub fn read_header(form: Form, bytes: &[u8]) -> ReadHeader
         return ReadHeader::Incomplete;
     }
     if check_holds(form, bytes) {
-        let x = inner::number(bytes, 0, number_len(form));
+        let x = inner::read_number(bytes, 0, number_len(form));
         let header = fields(form, x);
         if header.uncompressed == 0 {
             return ReadHeader::Whole(header);
@@ -166,7 +166,7 @@ fn payload_holds(bytes: &[u8], start: usize, len: usize) -> bool
 {
     let end = start + len;
     let computed = crc32(&bytes[start..end]);
-    let read = inner::number(bytes, end, TRAILER_LEN);
+    let read = inner::read_number(bytes, end, TRAILER_LEN);
     read == computed as u64
 }
 

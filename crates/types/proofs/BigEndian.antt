@@ -84,8 +84,8 @@ module _ (n : ℕ) (s : List ℕ) (e : length s ≡ suc n) where
   be-last : be s ≡ be (take n s) * 256 + getD s n 0
   be-last = ap be last-apart ∙ be-snoc (take n s) (getD s n 0)
 
-  length-front : length (take n s) ≡ n
-  length-front = length-take-le n s (omega arith)
+  length-but-last : length (take n s) ≡ n
+  length-but-last = length-take-le n s (omega arith)
 
 -- read, then written
 pub digits-be : (n : ℕ) (s : List ℕ) → length s ≡ n → Bytes s → digits n (be s) ≡ s
@@ -96,7 +96,7 @@ digits-be (suc n) s e b =
     ap₂ (λ (x y : ℕ). digits n x ++ (y ∷ []))
     (ap (λ (k : ℕ). k / 256) (be-last n s e) ∙ digits-div (be (take n s)) (b n))
     (ap (λ (k : ℕ). k % 256) (be-last n s e) ∙ digits-mod (be (take n s)) (b n))
-    ∙ ap (λ (l : List ℕ). l ++ (getD s n 0 ∷ [])) (digits-be n (take n s) (length-front n s e) (bytes-take n s b))
+    ∙ ap (λ (l : List ℕ). l ++ (getD s n 0 ∷ [])) (digits-be n (take n s) (length-but-last n s e) (bytes-take n s b))
     ∙ sym (last-apart n s e)
 
 -- what n bytes hold
@@ -104,4 +104,4 @@ pub be-below : (n : ℕ) (s : List ℕ) → length s ≡ n → Bytes s → be s 
 unfolding be beFrom
 be-below zero [] e b = zero-lt-suc 0
 be-below zero (x ∷ s) e b = let f : ⊥ = omega arith in absurd f
-be-below (suc n) s e b = rw (be-last n s e, ← add-one n) (more-below n (be-below n (take n s) (length-front n s e) (bytes-take n s b)) (b n))
+be-below (suc n) s e b = rw (be-last n s e, ← add-one n) (more-below n (be-below n (take n s) (length-but-last n s e) (bytes-take n s b)) (b n))

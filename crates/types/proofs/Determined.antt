@@ -2,23 +2,25 @@
 -- readers and writers are said in the words of specs/Notation.antt: so what is proved of a notation is about these contracts.
 -- Assumes nothing.
 use Prim.Native.Nat.{ℕ}
-use mathlib.Core.Path.{sym, ap₂, _∙_}
+use mathlib.Core.Path.{_≡_, sym, ap₂, _∙_}
 use mathlib.Core.List.{List}
 use mathlib.Core.Option.{none, some}
 use mir.Syntax.{w16, w32, w64}
 use mir.Val.{toZ, ofZ}
+use denote.Ref.{RefT}
 use Rattle.basis.specs.Determined.{Determined, DeterminedAs}
-use Rattle.basis.proofs.Determined.{by-equation, by-sight, by-meaning, told-apart}
+use Rattle.basis.proofs.Determined.{Tells, by-equation, by-sight, by-meaning, told-apart}
 use Rattle.types.specs.Number.{digits}
 use Rattle.types.specs.Read.{stepAt, bytesIn}
 use Rattle.types.specs.Write.{put, Check, Wrote, counted, cutBy, listBytes, listCheck}
-use Rattle.types.specs.Notation.{byte, short, int, long, uuid, string, longString, stringList, bytes, shortBytes}
+use Rattle.types.specs.Answer.{Answer}
+use Rattle.types.specs.Notation.{Notation, byte, short, int, long, uuid, string, longString, stringList, bytes, shortBytes}
 use Rattle.types.specs.Paper.{placeOf, paperWritten}
 use Rattle.types.specs.declared.Written.{Written}
 use Rattle.types.proofs.Told.{byte-told, short-told, int-told, long-told, part-told, bytes-told, strings-told, walked-told, writable-told, written-told}
 use Rattle.types.proofs.part.Reads as hands
 use Rattle.types.proofs.inner.room.Reads as has-room
-use Rattle.types.proofs.inner.number.Reads as numbers
+use Rattle.types.proofs.inner.read_number.Reads as reads-number
 use Rattle.types.proofs.inner.put_number.Reads as puts-number
 use Rattle.types.proofs.inner.put_bytes.Reads as puts-bytes
 use Rattle.types.proofs.inner.put_counted.Reads as puts-counted
@@ -56,7 +58,7 @@ use Rattle.types.proofs.write.write_string_list.Reads as writes-list
 -- ---- what a place holds, signs
 
 pub part-determined : DeterminedAs (λ κs r e. r .now) hands.Post
-part-determined = by-sight (λ κs r e. r .now) (λ κs a. bytesIn (a .0 .now) (placeOf (a .1 .0)))
+part-determined = by-sight _ (λ κs a. bytesIn (a .0 .now) (placeOf (a .1 .0)))
 
 pub signed16-determined : Determined signs16.Post
 signed16-determined = by-equation (λ κs a. toZ w16 (a .0))
@@ -78,35 +80,42 @@ bits64-determined = by-equation (λ κs a. ofZ w64 (a .0))
 
 -- ---- readers
 
+-- of a notation's reader: the bytes are lent first, then the position is told
+by-reading {ℓ} :
+    {Lifetimes : Type ℓ} {Others Exit : Lifetimes → Type 0} {Value Content Read : Type 0} {meaning : Read → Answer Value}
+    (n : Notation Value Content) → Tells meaning
+    → Determined {Arguments = λ κs. RefT (List ℕ) × (ℕ × Others κs)} {Exit = Exit} (λ κs a r e. meaning r ≡ n .read (a .0 .now) (a .1 .0))
+by-reading n tells = by-meaning tells (λ κs a. n .read (a .0 .now) (a .1 .0))
+
 pub read-byte-determined : Determined reads-byte.Post
-read-byte-determined = by-meaning byte-told (λ κs a. byte .read (a .0 .now) (a .1 .0))
+read-byte-determined = by-reading byte byte-told
 
 pub read-short-determined : Determined reads-short.Post
-read-short-determined = by-meaning short-told (λ κs a. short .read (a .0 .now) (a .1 .0))
+read-short-determined = by-reading short short-told
 
 pub read-int-determined : Determined reads-int.Post
-read-int-determined = by-meaning int-told (λ κs a. int .read (a .0 .now) (a .1 .0))
+read-int-determined = by-reading int int-told
 
 pub read-long-determined : Determined reads-long.Post
-read-long-determined = by-meaning long-told (λ κs a. long .read (a .0 .now) (a .1 .0))
+read-long-determined = by-reading long long-told
 
 pub read-uuid-determined : Determined reads-uuid.Post
-read-uuid-determined = by-meaning part-told (λ κs a. uuid .read (a .0 .now) (a .1 .0))
+read-uuid-determined = by-reading uuid part-told
 
 pub read-short-bytes-determined : Determined reads-short-bytes.Post
-read-short-bytes-determined = by-meaning part-told (λ κs a. shortBytes .read (a .0 .now) (a .1 .0))
+read-short-bytes-determined = by-reading shortBytes part-told
 
 pub read-string-determined : Determined reads-string.Post
-read-string-determined = by-meaning part-told (λ κs a. string .read (a .0 .now) (a .1 .0))
+read-string-determined = by-reading string part-told
 
 pub read-long-string-determined : Determined reads-long-string.Post
-read-long-string-determined = by-meaning part-told (λ κs a. longString .read (a .0 .now) (a .1 .0))
+read-long-string-determined = by-reading longString part-told
 
 pub read-bytes-determined : Determined reads-bytes.Post
-read-bytes-determined = by-meaning bytes-told (λ κs a. bytes .read (a .0 .now) (a .1 .0))
+read-bytes-determined = by-reading bytes bytes-told
 
 pub read-string-list-determined : Determined reads-list.Post
-read-string-list-determined = by-meaning strings-told (λ κs a. stringList .read (a .0 .now) (a .1 .0))
+read-string-list-determined = by-reading stringList strings-told
 
 pub next-string-determined : Determined steps.Post
 next-string-determined = by-meaning walked-told (λ κs a. stepAt (a .0 .now) (a .1 .0 .left) (a .1 .0 .at))
@@ -117,13 +126,16 @@ next-string-determined = by-meaning walked-told (λ κs a. stepAt (a .0 .now) (a
 abbrev pub Outcome : Type 0
 Outcome = Written × List ℕ
 
+abbrev pub DeterminedWriter {ℓ} :
+    {Lifetimes : Type ℓ} {Others OthersLeft : Lifetimes → Type 0}
+    → ((κs : Lifetimes) → RefT (List ℕ) × Others κs → Written → RefT (List ℕ) × OthersLeft κs → Type 0) → Type ℓ
+DeterminedWriter Ensures = DeterminedAs {Seen = Outcome} (λ κs r e. (r, e .0 .now)) Ensures
+
 pub by-wrote {ℓ} :
-    {Lifetimes : Type ℓ} {Arguments Exit : Lifetimes → Type 0} (left : (κs : Lifetimes) → Exit κs → List ℕ)
-    (check : (κs : Lifetimes) → Arguments κs → Check) (out : (κs : Lifetimes) → Arguments κs → List ℕ)
-    (at : (κs : Lifetimes) → Arguments κs → ℕ) (bs : (κs : Lifetimes) → Arguments κs → List ℕ)
-    → DeterminedAs {Answer = λ κs. Written} {Seen = Outcome} (λ κs r e. (r, left κs e))
-    (λ κs a r e. Wrote (check κs a) (out κs a) (at κs a) (bs κs a) (paperWritten r) (left κs e))
-by-wrote left check out at bs =
+    {Lifetimes : Type ℓ} {Others OthersLeft : Lifetimes → Type 0}
+    (check : (κs : Lifetimes) → Others κs → Check) (at : (κs : Lifetimes) → Others κs → ℕ) (bs : (κs : Lifetimes) → Others κs → List ℕ)
+    → DeterminedWriter {OthersLeft = OthersLeft} (λ κs a r e. Wrote (check κs (a .1)) (a .0 .now) (at κs (a .1)) (bs κs (a .1)) (paperWritten r) (e .0 .now))
+by-wrote check at bs =
     record {
       same = λ κs a r s e f p q.
           ap₂ pair (told-apart written-told r s (p .says ∙ sym (q .says))) (p .leaves ∙ sym (q .leaves));
@@ -132,58 +144,66 @@ by-wrote left check out at bs =
     pair : Written → List ℕ → Outcome
     pair r left = (r, left)
 
-pub write-byte-determined : DeterminedAs {Seen = Outcome} (λ κs r e. (r, e .0 .now)) writes-byte.Post
-write-byte-determined = by-wrote (λ κs e. e .0 .now) (λ κs a. byte .check (a .1 .1 .0)) (λ κs a. a .0 .now) (λ κs a. a .1 .0) (λ κs a. byte .written (a .1 .1 .0))
+-- of a notation's writer: behind the output stands the position, and behind that what is written
+by-writing {ℓ} :
+    {Lifetimes : Type ℓ} {Given OthersLeft : Lifetimes → Type 0} {Value Content : Type 0}
+    (n : Notation Value Content) (content : (κs : Lifetimes) → Given κs → Content)
+    → DeterminedWriter {Others = λ κs. ℕ × Given κs} {OthersLeft = OthersLeft}
+    (λ κs a r e. Wrote (n .check (content κs (a .1 .1))) (a .0 .now) (a .1 .0) (n .written (content κs (a .1 .1))) (paperWritten r) (e .0 .now))
+by-writing n content = by-wrote (λ κs v. n .check (content κs (v .1))) (λ κs v. v .0) (λ κs v. n .written (content κs (v .1)))
 
-pub write-short-determined : DeterminedAs {Seen = Outcome} (λ κs r e. (r, e .0 .now)) writes-short.Post
-write-short-determined = by-wrote (λ κs e. e .0 .now) (λ κs a. short .check (a .1 .1 .0)) (λ κs a. a .0 .now) (λ κs a. a .1 .0) (λ κs a. short .written (a .1 .1 .0))
+pub write-byte-determined : DeterminedWriter writes-byte.Post
+write-byte-determined = by-writing byte (λ κs v. v .0)
 
-pub write-int-determined : DeterminedAs {Seen = Outcome} (λ κs r e. (r, e .0 .now)) writes-int.Post
-write-int-determined = by-wrote (λ κs e. e .0 .now) (λ κs a. int .check (a .1 .1 .0)) (λ κs a. a .0 .now) (λ κs a. a .1 .0) (λ κs a. int .written (a .1 .1 .0))
+pub write-short-determined : DeterminedWriter writes-short.Post
+write-short-determined = by-writing short (λ κs v. v .0)
 
-pub write-long-determined : DeterminedAs {Seen = Outcome} (λ κs r e. (r, e .0 .now)) writes-long.Post
-write-long-determined = by-wrote (λ κs e. e .0 .now) (λ κs a. long .check (a .1 .1 .0)) (λ κs a. a .0 .now) (λ κs a. a .1 .0) (λ κs a. long .written (a .1 .1 .0))
+pub write-int-determined : DeterminedWriter writes-int.Post
+write-int-determined = by-writing int (λ κs v. v .0)
 
-pub write-uuid-determined : DeterminedAs {Seen = Outcome} (λ κs r e. (r, e .0 .now)) writes-uuid.Post
-write-uuid-determined = by-wrote (λ κs e. e .0 .now) (λ κs a. uuid .check (a .1 .1 .0)) (λ κs a. a .0 .now) (λ κs a. a .1 .0) (λ κs a. uuid .written (a .1 .1 .0))
+pub write-long-determined : DeterminedWriter writes-long.Post
+write-long-determined = by-writing long (λ κs v. v .0)
 
-pub write-short-bytes-determined : DeterminedAs {Seen = Outcome} (λ κs r e. (r, e .0 .now)) writes-short-bytes.Post
-write-short-bytes-determined = by-wrote (λ κs e. e .0 .now) (λ κs a. shortBytes .check (a .1 .1 .0 .now)) (λ κs a. a .0 .now) (λ κs a. a .1 .0) (λ κs a. shortBytes .written (a .1 .1 .0 .now))
+pub write-uuid-determined : DeterminedWriter writes-uuid.Post
+write-uuid-determined = by-writing uuid (λ κs v. v .0)
 
-pub write-string-determined : DeterminedAs {Seen = Outcome} (λ κs r e. (r, e .0 .now)) writes-string.Post
-write-string-determined = by-wrote (λ κs e. e .0 .now) (λ κs a. string .check (a .1 .1 .0 .now)) (λ κs a. a .0 .now) (λ κs a. a .1 .0) (λ κs a. string .written (a .1 .1 .0 .now))
+pub write-short-bytes-determined : DeterminedWriter writes-short-bytes.Post
+write-short-bytes-determined = by-writing shortBytes (λ κs v. v .0 .now)
 
-pub write-long-string-determined : DeterminedAs {Seen = Outcome} (λ κs r e. (r, e .0 .now)) writes-long-string.Post
-write-long-string-determined = by-wrote (λ κs e. e .0 .now) (λ κs a. longString .check (a .1 .1 .0 .now)) (λ κs a. a .0 .now) (λ κs a. a .1 .0) (λ κs a. longString .written (a .1 .1 .0 .now))
+pub write-string-determined : DeterminedWriter writes-string.Post
+write-string-determined = by-writing string (λ κs v. v .0 .now)
 
-pub write-bytes-determined : DeterminedAs {Seen = Outcome} (λ κs r e. (r, e .0 .now)) writes-bytes.Post
-write-bytes-determined = by-wrote (λ κs e. e .0 .now) (λ κs a. bytes .check (some (a .1 .1 .0 .now))) (λ κs a. a .0 .now) (λ κs a. a .1 .0) (λ κs a. bytes .written (some (a .1 .1 .0 .now)))
+pub write-long-string-determined : DeterminedWriter writes-long-string.Post
+write-long-string-determined = by-writing longString (λ κs v. v .0 .now)
 
-pub write-null-determined : DeterminedAs {Seen = Outcome} (λ κs r e. (r, e .0 .now)) writes-null.Post
-write-null-determined = by-wrote (λ κs e. e .0 .now) (λ κs a. bytes .check none) (λ κs a. a .0 .now) (λ κs a. a .1 .0) (λ κs a. bytes .written none)
+pub write-bytes-determined : DeterminedWriter writes-bytes.Post
+write-bytes-determined = by-writing bytes (λ κs v. some (v .0 .now))
 
-pub write-string-list-determined : DeterminedAs {Seen = Outcome} (λ κs r e. (r, e .0 .now)) writes-list.Post
-write-string-list-determined = by-wrote (λ κs e. e .0 .now) (λ κs a. stringList .check (a .1 .1 .0 .now, a .1 .1 .1 .0 .now)) (λ κs a. a .0 .now) (λ κs a. a .1 .0) (λ κs a. stringList .written (a .1 .1 .0 .now, a .1 .1 .1 .0 .now))
+pub write-null-determined : DeterminedWriter writes-null.Post
+write-null-determined = by-writing bytes (λ κs v. none)
 
--- ---- what the crates share: of `room` and `number` the first half says all
+pub write-string-list-determined : DeterminedWriter writes-list.Post
+write-string-list-determined = by-writing stringList (λ κs v. (v .0 .now, v .1 .0 .now))
+
+-- ---- what the crates share: of `room` and `read_number` the first half says all
 
 pub room-determined : Determined has-room.Post
 room-determined = record { same = λ κs a r s e f p q. p .0 ∙ sym (q .0) }
 
-pub number-determined : Determined numbers.Post
-number-determined = record { same = λ κs a r s e f p q. p .0 ∙ sym (q .0) }
+pub read-number-determined : Determined reads-number.Post
+read-number-determined = record { same = λ κs a r s e f p q. p .0 ∙ sym (q .0) }
 
 pub put-number-determined : DeterminedAs (λ κs r e. e .0 .now) puts-number.Post
-put-number-determined = by-sight (λ κs r e. e .0 .now) (λ κs a. put (a .0 .now) (a .1 .0) (digits (a .1 .1 .0) (a .1 .1 .1 .0)))
+put-number-determined = by-sight _ (λ κs a. put (a .0 .now) (a .1 .0) (digits (a .1 .1 .0) (a .1 .1 .1 .0)))
 
 pub put-bytes-determined : DeterminedAs (λ κs r e. e .0 .now) puts-bytes.Post
-put-bytes-determined = by-sight (λ κs r e. e .0 .now) (λ κs a. put (a .0 .now) (a .1 .0) (a .1 .1 .0 .now))
+put-bytes-determined = by-sight _ (λ κs a. put (a .0 .now) (a .1 .0) (a .1 .1 .0 .now))
 
 pub put-counted-determined : DeterminedAs (λ κs r e. e .0 .now) puts-counted.Post
-put-counted-determined = by-sight (λ κs r e. e .0 .now) (λ κs a. put (a .0 .now) (a .1 .0) (counted (a .1 .1 .0) (a .1 .1 .1 .0 .now)))
+put-counted-determined = by-sight _ (λ κs a. put (a .0 .now) (a .1 .0) (counted (a .1 .1 .0) (a .1 .1 .1 .0 .now)))
 
 pub check-list-determined : Determined checks-list.Post
 check-list-determined = by-meaning writable-told (λ κs a. listCheck (a .0 .now) (a .1 .0 .now))
 
 pub put-list-determined : DeterminedAs (λ κs r e. e .0 .now) puts-list.Post
-put-list-determined = by-sight (λ κs r e. e .0 .now) (λ κs a. put (a .0 .now) (a .1 .0) (listBytes (cutBy (a .1 .1 .0 .now) (a .1 .1 .1 .0 .now))))
+put-list-determined = by-sight _ (λ κs a. put (a .0 .now) (a .1 .0) (listBytes (cutBy (a .1 .1 .0 .now) (a .1 .1 .1 .0 .now))))

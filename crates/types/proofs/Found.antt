@@ -1,6 +1,6 @@
 -- What an answer with a value says of the bytes that were read. Assumes nothing.
 use Prim.Native.Nat.{ℕ, _+_, _≤_, _<_}
-use mathlib.Core.Path.{_≡_, refl, sym, ap, _∙_}
+use mathlib.Core.Path.{_≡_, refl, sym, ap, ap₂, _∙_}
 use mathlib.Core.Bool.{Bool, true, false, cond}
 use mathlib.Core.List.{List}
 use mathlib.Core.Option.{Option, none, some}
@@ -17,7 +17,7 @@ use Rattle.refusal.specs.Refusal.{Refusal, pastEnd, notUtf8}
 use Rattle.types.specs.Answer.{Answer, got, refused, andThen}
 use Rattle.types.specs.Number.{be, part}
 use Rattle.utf8.specs.Utf8.{utf8}
-use Rattle.types.specs.Read.{Place, place, numberAt, signedAt, runAt, textAt, natural, countAt}
+use Rattle.types.specs.Read.{Place, place, Strings, strings, numberAt, signedAt, shortAt, runAt, textAt, natural, countAt, stringsAt, listed, stringListAt}
 use Rattle.types.specs.Write.{maxInt}
 use Rattle.types.proofs.Reading.{natural-some, natural-none}
 
@@ -25,32 +25,16 @@ use Rattle.types.proofs.Reading.{natural-some, natural-none}
 
 -- no value is a refusal
 pub got-refused : {A : Type 0} {v : A} {next : ℕ} {why : Refusal} → refused why ≡ got v next → ⊥
-got-refused {A} e = let z : _≡_ {A = ℕ} 0 1 = ap (λ (a : Answer A). tag a) e in omega arith
-  where
-    tag : Answer A → ℕ
-    tag (got v next) = 1
-    tag (refused why) = 0
+got-refused e = let z : _≡_ {A = ℕ} 0 1 = cc in omega arith
 
 pub got-value : {A : Type 0} {v w : A} {next end : ℕ} → got v next ≡ got w end → v ≡ w
-got-value {A} {v} e = ap (λ (a : Answer A). value a) e
-  where
-    value : Answer A → A
-    value (got w end) = w
-    value (refused why) = v
+got-value e = cc
 
 pub got-next : {A : Type 0} {v w : A} {next end : ℕ} → got v next ≡ got w end → next ≡ end
-got-next {A} e = ap (λ (a : Answer A). position a) e
-  where
-    position : Answer A → ℕ
-    position (got w end) = end
-    position (refused why) = 0
+got-next e = cc
 
 pub same-refusal : {A : Type 0} {d e : Refusal} → _≡_ {A = Answer A} (refused d) (refused e) → d ≡ e
-same-refusal {A} {d} r = ap (λ (a : Answer A). refusal a) r
-  where
-    refusal : Answer A → Refusal
-    refusal (got w end) = d
-    refusal (refused why) = why
+same-refusal r = cc
 
 -- a value that was read behind something: what was read first, and then it
 pub record Behind {A B : Type 0} (a : Answer A) (f : A → ℕ → Answer B) (w : B) (end : ℕ) : Type 0 where
@@ -86,11 +70,14 @@ found-as : {A B : Type 0} {s : List ℕ} {at n : ℕ} {v w : A} {next end : ℕ}
 found-as f g e = record { room = g .room; value = sym (got-value e) ∙ ap f (g .value); ends = sym (got-next e) ∙ g .ends }
 
 module _ (n : ℕ) (s : List ℕ) (at : ℕ) where
+  found-there : {A : Type 0} (v : A) {w : A} {end : ℕ} → cond (leb (at + n) (length s)) (got v (at + n)) (refused pastEnd) ≡ got w end → Found s at n v w end
+  found-there v e =
+      let p = passed (leb (at + n) (length s)) v (at + n) pastEnd e in
+      record { room = leb-true (at + n) (length s) (p .test); value = p .value; ends = p .ends }
+
   pub number-found : {x end : ℕ} → numberAt n s at ≡ got x end → Found s at n (be (part s at n)) x end
   unfolding numberAt
-  number-found e =
-      let p = passed (leb (at + n) (length s)) (be (part s at n)) (at + n) pastEnd e in
-      record { room = leb-true (at + n) (length s) (p .test); value = p .value; ends = p .ends }
+  number-found e = found-there (be (part s at n)) e
 
   pub signed-found : (w : Width) {z : ℤ} {end : ℕ} → signedAt w n s at ≡ got z end → Found s at n (toZ w (be (part s at n))) z end
   unfolding signedAt
@@ -100,9 +87,7 @@ module _ (n : ℕ) (s : List ℕ) (at : ℕ) where
 
   pub run-found : {p : Place} {end : ℕ} → runAt s n at ≡ got p end → Found s at n (place at n) p end
   unfolding runAt
-  run-found e =
-      let p = passed (leb (at + n) (length s)) (place at n) (at + n) pastEnd e in
-      record { room = leb-true (at + n) (length s) (p .test); value = p .value; ends = p .ends }
+  run-found e = found-there (place at n) e
 
   pub record TextFound (p : Place) (end : ℕ) : Type 0 where
     pub run : Found s at n (place at n) p end
@@ -143,3 +128,13 @@ some-counted x n e =
 
     some-value : {y : ℕ} → some n ≡ some y → n ≡ y
     some-value p = cc
+
+-- a list of strings: its count, and behind it the strings
+pub list-found : (s : List ℕ) (at : ℕ) {n start end : ℕ} → stringListAt s at ≡ got (strings n start) end → (shortAt s at ≡ got n start) × (ps : List Place) × (stringsAt s n start ≡ got ps end)
+unfolding stringListAt listed
+list-found s at e =
+    let h = behind (shortAt s at) (listed s) e in
+    let k = behind (stringsAt s (h .value) (h .next)) (λ ps next. got (strings (h .value) (h .next)) next) (h .then) in
+    let many = ap (λ (x : Strings). x .left) (got-value (k .then)) in
+    let from = ap (λ (x : Strings). x .at) (got-value (k .then)) in
+    (h .first ∙ ap₂ got many from, k .value, sym (ap₂ (stringsAt s) many from) ∙ k .first ∙ ap (got (k .value)) (got-next (k .then)))

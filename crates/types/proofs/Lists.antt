@@ -13,12 +13,12 @@ use Rattle.refusal.specs.Refusal.{notUtf8, notWritable}
 use Rattle.types.specs.Answer.{got, andThen}
 use Rattle.types.specs.Number.{digits}
 use Rattle.utf8.specs.Utf8.{utf8}
-use Rattle.types.specs.Read.{Place, place, Strings, strings, shortAt, stringAt, stringsAt, listed, stringListAt, bytesIn, textsIn}
+use Rattle.types.specs.Read.{Place, place, strings, shortAt, stringAt, stringsAt, listed, stringListAt, bytesIn, textsIn}
 use Rattle.types.specs.Write.{fine, demand, counted, textCheck, maxShort, cutBy, joined, lengthsOf, lengthsFit, allUtf8, stringsBytes, listBytes, listCheck}
 use Rattle.types.proofs.BigEndian.{length-digits}
 use Rattle.types.proofs.Put.{demanded}
 use Rattle.types.proofs.Reading.{then-got}
-use Rattle.types.proofs.Found.{behind, got-value, got-next, number-found}
+use Rattle.types.proofs.Found.{behind, got-value, got-next, number-found, list-found}
 use Rattle.types.specs.ThereAndBack.{Holds, Stands}
 use Rattle.types.proofs.Holds.{holds-left, holds-right, holds-join}
 use Rattle.types.proofs.Cut.{both-true, Next, next-of, fit-goes-on, fit-none, length-cut, Writes, writes, list-apart}
@@ -196,30 +196,26 @@ pub record ListRead (s : List ℕ) (at n start end : ℕ) : Type 0 where
   pub stands : Stands (listCheck (joined (textsIn s places)) (lengthsOf (textsIn s places))) at (listBytes (textsIn s places)) s end
 
 pub list-forth : (s : List ℕ) → Bytes s → (at : ℕ) {n start end : ℕ} → stringListAt s at ≡ got (strings n start) end → ListRead s at n start end
-unfolding stringListAt listed listBytes
+unfolding listBytes
 list-forth s b at {n} {start} {end} e =
-    let h = behind (shortAt s at) (listed s) e in
-    let k = behind (stringsAt s (h .value) (h .next)) (λ ps next. got (strings (h .value) (h .next)) next) (h .then) in
-    let en : h .value ≡ n = ap (λ (x : Strings). x .count) (got-value (k .then)) in
-    let es : h .next ≡ start = ap (λ (x : Strings). x .start) (got-value (k .then)) in
-    let st = short-forth s b at (h .first) in
-    let c = number-found 2 s at (h .first) in
-    let ts : List (List ℕ) = textsIn s (k .value) in
-    let i : Read s (h .value) (h .next) (k .value) (k .next) = strings-forth s b (h .value) (h .next) (omega (arith, c .ends, c .room)) (k .first) in
+    let h = list-found s at e in
+    let st = short-forth s b at (h .0) in
+    let c = number-found 2 s at (h .0) in
+    let ts : List (List ℕ) = textsIn s (h .1) in
+    let i : Read s n start (h .1) end = strings-forth s b n start (omega (arith, c .ends, c .room)) (h .2) in
     let small : length ts ≤ maxShort = subst (λ (m : ℕ). m ≤ maxShort) (sym (i .many)) (short-small s b at c) in
     record {
-      begins = sym es ∙ c .ends;
-      places = k .value;
-      met = sym (ap₂ (stringsAt s) en es) ∙ k .first ∙ ap (got (k .value)) (got-next (k .then));
-      many = i .many ∙ en;
+      begins = c .ends;
+      places = h .1;
+      met = h .2;
+      many = i .many;
       stands = record {
         nothing = joined-check ts (i .fit) small;
         holds =
             holds-join s at (digits 2 (length ts)) (stringsBytes ts) (subst (λ (m : ℕ). Holds s at (digits 2 m)) (sym (i .many)) (st .holds))
             (subst (λ (j : ℕ). Holds s j (stringsBytes ts)) (c .ends ∙ ap (λ (j : ℕ). at + j) (sym (length-digits 2 (length ts)))) (i .holds));
         end =
-            sym (got-next (k .then))
-            ∙ i .ends
+            i .ends
             ∙ ap (λ (j : ℕ). j + length (stringsBytes ts)) (c .ends)
             ∙ add-assoc at 2 (length (stringsBytes ts))
             ∙ ap (λ (j : ℕ). at + j) (sym (list-apart ts));

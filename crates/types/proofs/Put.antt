@@ -24,8 +24,8 @@ put-none out at =
 
 module _ (out : List ℕ) (at : ℕ) (a : List ℕ) where
   -- what stands before the end of what was written
-  pub length-front : at ≤ length out → length (take at out ++ a) ≡ at + length a
-  length-front h = length-append (take at out) a ∙ ap (λ (k : ℕ). k + length a) (length-take-le at out h)
+  pub length-to-end : at ≤ length out → length (take at out ++ a) ≡ at + length a
+  length-to-end h = length-append (take at out) a ∙ ap (λ (k : ℕ). k + length a) (length-take-le at out h)
 
   pub length-put : at + length a ≤ length out → length (put out at a) ≡ length out
   unfolding put
@@ -38,7 +38,7 @@ module _ (out : List ℕ) (at : ℕ) (a : List ℕ) where
   unfolding put
   put-put b h =
       let h' : at ≤ length out = omega arith in
-      let f : length (take at out ++ a) ≡ at + length a = length-front h' in
+      let f : length (take at out ++ a) ≡ at + length a = length-to-end h' in
       let t : take (at + length a) (put out at a) ≡ take at out ++ a = take-at (take at out ++ a) (drop (at + length a) out) (at + length a) f in
       let d : drop (at + length a + length b) (put out at a) ≡ drop (at + length (a ++ b)) out =
       ap (λ (k : ℕ). drop (k + length b) (put out at a)) (sym f)

@@ -1,7 +1,7 @@
 -- What the definitions of reading say on each way through the code. Assumes nothing.
 use Prim.Native.Nat.{ℕ, zero, suc, _+_, _-_, _^_, _≤_, _<_}
 use mathlib.Core.Path.{_≡_, refl, sym, ap, _∙_}
-use mathlib.Core.Bool.{true, false, cond}
+use mathlib.Core.Bool.{Bool, true, false, cond}
 use mathlib.Core.List.{List, [], _∷_}
 use mathlib.Core.Option.{none, some}
 use native.Mathlib.Numerals.{sub-one}
@@ -27,54 +27,37 @@ then-got f e = ap (λ a. andThen a f) e
 pub then-refused : {A B : Type 0} {a : Answer A} (f : A → ℕ → Answer B) {e : Refusal} → a ≡ refused e → andThen a f ≡ refused e
 then-refused f e = ap (λ a. andThen a f) e
 
-module _ (n : ℕ) (s : List ℕ) (at : ℕ) where
-  pub number-read : leb (at + n) (length s) ≡ true → numberAt n s at ≡ got (be (part s at n)) (at + n)
+-- what is read behind something that is there where a test holds
+then-tested : {A B : Type 0} {a : Answer A} (t : Bool) (v : A) (next : ℕ) (why : Refusal) (f : A → ℕ → Answer B) → a ≡ cond t (got v next) (refused why) → andThen a f ≡ cond t (f v next) (refused why)
+then-tested true v next why f e = then-got f e
+then-tested false v next why f e = then-refused f e
+
+-- ---- numbers, bytes and texts, by the test of the room for them
+
+module _ (n : ℕ) (s : List ℕ) (at : ℕ) {room : Bool} (h : leb (at + n) (length s) ≡ room) where
+  pub number-read : numberAt n s at ≡ cond room (got (be (part s at n)) (at + n)) (refused pastEnd)
   unfolding numberAt
-  number-read h = ap (λ t. cond t (got (be (part s at n)) (at + n)) (refused pastEnd)) h
+  number-read = ap (λ t. cond t (got (be (part s at n)) (at + n)) (refused pastEnd)) h
 
-  pub number-past : leb (at + n) (length s) ≡ false → numberAt n s at ≡ refused pastEnd
-  unfolding numberAt
-  number-past h = ap (λ t. cond t (got (be (part s at n)) (at + n)) (refused pastEnd)) h
-
-  pub signed-read : (w : Width) → leb (at + n) (length s) ≡ true → signedAt w n s at ≡ got (toZ w (be (part s at n))) (at + n)
+  pub signed-read : (w : Width) → signedAt w n s at ≡ cond room (got (toZ w (be (part s at n))) (at + n)) (refused pastEnd)
   unfolding signedAt
-  signed-read w h = then-got (λ x next. got (toZ w x) next) (number-read h)
+  signed-read w = then-tested room (be (part s at n)) (at + n) pastEnd (λ x next. got (toZ w x) next) number-read
 
-  pub signed-past : (w : Width) → leb (at + n) (length s) ≡ false → signedAt w n s at ≡ refused pastEnd
-  unfolding signedAt
-  signed-past w h = then-refused (λ x next. got (toZ w x) next) (number-past h)
-
-  pub run-read : leb (at + n) (length s) ≡ true → runAt s n at ≡ got (place at n) (at + n)
+  pub run-read : runAt s n at ≡ cond room (got (place at n) (at + n)) (refused pastEnd)
   unfolding runAt
-  run-read h = ap (λ t. cond t (got (place at n) (at + n)) (refused pastEnd)) h
+  run-read = ap (λ t. cond t (got (place at n) (at + n)) (refused pastEnd)) h
 
-  pub run-past : leb (at + n) (length s) ≡ false → runAt s n at ≡ refused pastEnd
-  unfolding runAt
-  run-past h = ap (λ t. cond t (got (place at n) (at + n)) (refused pastEnd)) h
-
-  -- the text is there: UTF-8 or not
-  text-judged : leb (at + n) (length s) ≡ true → textAt s n at ≡ cond (utf8 (part s at n)) (got (place at n) (at + n)) (refused notUtf8)
+  -- and by that of the text
+  pub text-read : {fits : Bool} → utf8 (part s at n) ≡ fits → textAt s n at ≡ cond room (cond fits (got (place at n) (at + n)) (refused notUtf8)) (refused pastEnd)
   unfolding textAt
-  text-judged h = then-got (λ p next. cond (utf8 (part s at n)) (got p next) (refused notUtf8)) (run-read h)
-
-  pub text-read : leb (at + n) (length s) ≡ true → utf8 (part s at n) ≡ true → textAt s n at ≡ got (place at n) (at + n)
-  text-read h u = text-judged h ∙ ap (λ t. cond t (got (place at n) (at + n)) (refused notUtf8)) u
-
-  pub text-not : leb (at + n) (length s) ≡ true → utf8 (part s at n) ≡ false → textAt s n at ≡ refused notUtf8
-  text-not h u = text-judged h ∙ ap (λ t. cond t (got (place at n) (at + n)) (refused notUtf8)) u
-
-  pub text-past : leb (at + n) (length s) ≡ false → textAt s n at ≡ refused pastEnd
-  unfolding textAt
-  text-past h = then-refused (λ p next. cond (utf8 (part s at n)) (got p next) (refused notUtf8)) (run-past h)
+  text-read u =
+      then-tested room (place at n) (at + n) pastEnd (λ p next. cond (utf8 (part s at n)) (got p next) (refused notUtf8)) run-read
+      ∙ ap (λ t. cond room (cond t (got (place at n) (at + n)) (refused notUtf8)) (refused pastEnd)) u
 
   -- the bytes of a place
-  pub bytes-there : leb (at + n) (length s) ≡ true → bytesIn s (place at n) ≡ part s at n
+  pub bytes-there : bytesIn s (place at n) ≡ cond room (part s at n) []
   unfolding bytesIn
-  bytes-there h = ap (λ t. cond t (part s at n) []) h
-
-  pub bytes-none : leb (at + n) (length s) ≡ false → bytesIn s (place at n) ≡ []
-  unfolding bytesIn
-  bytes-none h = ap (λ t. cond t (part s at n) []) h
+  bytes-there = ap (λ t. cond t (part s at n) []) h
 
 -- ---- a count that is an [int]
 
@@ -85,14 +68,9 @@ natural-some w x h = ap natural (toZ-pos w x h)
 pub natural-none : (w : Width) (x : ℕ) → 2 ^ hbits w ≤ x → natural (toZ w x) ≡ none
 natural-none w x h = ap (λ t. natural (sel t (pos x) (negsuc (2 ^ bits w - suc x)))) (le-ltb x (2 ^ hbits w) h)
 
-module _ (s : List ℕ) (at : ℕ) where
-  pub count-past : leb (at + 4) (length s) ≡ false → countAt s at ≡ refused pastEnd
-  unfolding countAt
-  count-past h = then-refused (λ z next. got (natural z) next) (signed-past 4 s at w32 h)
-
-  pub count-read : leb (at + 4) (length s) ≡ true → countAt s at ≡ got (natural (toZ w32 (be (part s at 4)))) (at + 4)
-  unfolding countAt
-  count-read h = then-got (λ z next. got (natural z) next) (signed-read 4 s at w32 h)
+pub count-read : (s : List ℕ) (at : ℕ) {room : Bool} → leb (at + 4) (length s) ≡ room → countAt s at ≡ cond room (got (natural (toZ w32 (be (part s at 4)))) (at + 4)) (refused pastEnd)
+unfolding countAt
+count-read s at {room} h = then-tested room (toZ w32 (be (part s at 4))) (at + 4) pastEnd (λ z next. got (natural z) next) (signed-read 4 s at h w32)
 
 -- ---- strings, one behind the other
 

@@ -11,7 +11,7 @@ use Rattle.types.specs.Answer.{Answer, got, refused, andThen}
 use Rattle.types.specs.Number.{part}
 use Rattle.types.specs.Read.{strings, shortAt, textAt, stringAt, stringsAt, listed, stringListAt}
 use Rattle.types.proofs.Found.{got-refused, same-refusal}
-use Rattle.types.proofs.Reading.{number-read, number-past, text-read, text-not, text-past}
+use Rattle.types.proofs.Reading.{number-read, text-read}
 use Rattle.utf8.specs.Utf8.{utf8}
 
 -- one of the two
@@ -29,15 +29,15 @@ short-refused s at why e = go (leb (at + 2) (length s)) refl
   where
     go : (t : Bool) → leb (at + 2) (length s) ≡ t → OfTexts why
     go true p = absurd (got-refused (sym e ∙ number-read 2 s at p))
-    go false p = let z : refusalNumber why ≡ 12 = ap refusalNumber (same-refusal (sym e ∙ number-past 2 s at p)) in (omega arith, omega arith)
+    go false p = let z : refusalNumber why ≡ 12 = ap refusalNumber (same-refusal (sym e ∙ number-read 2 s at p)) in (omega arith, omega arith)
 
 text-refused : (s : List ℕ) (n at : ℕ) (why : Refusal) → textAt s n at ≡ refused why → OfTexts why
 text-refused s n at why e = go (leb (at + n) (length s)) refl (utf8 (part s at n)) refl
   where
     go : (t : Bool) → leb (at + n) (length s) ≡ t → (u : Bool) → utf8 (part s at n) ≡ u → OfTexts why
     go true p true q = absurd (got-refused (sym e ∙ text-read n s at p q))
-    go true p false q = let z : refusalNumber why ≡ 13 = ap refusalNumber (same-refusal (sym e ∙ text-not n s at p q)) in (omega arith, omega arith)
-    go false p u q = let z : refusalNumber why ≡ 12 = ap refusalNumber (same-refusal (sym e ∙ text-past n s at p)) in (omega arith, omega arith)
+    go true p false q = let z : refusalNumber why ≡ 13 = ap refusalNumber (same-refusal (sym e ∙ text-read n s at p q)) in (omega arith, omega arith)
+    go false p u q = let z : refusalNumber why ≡ 12 = ap refusalNumber (same-refusal (sym e ∙ text-read n s at p q)) in (omega arith, omega arith)
 
 pub string-refused : (s : List ℕ) (at : ℕ) (why : Refusal) → stringAt s at ≡ refused why → OfTexts why
 unfolding stringAt

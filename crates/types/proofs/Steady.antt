@@ -2,7 +2,7 @@
 -- Said once for readers that are put together from others. Assumes nothing.
 use Prim.Native.Nat.{ℕ, zero, suc, _+_, _≤_, _<_}
 use mathlib.Core.Path.{_≡_, refl, sym, ap, ap₂, _∙_, subst}
-use mathlib.Core.Bool.{Bool, true, false}
+use mathlib.Core.Bool.{Bool, true, false, cond}
 use mathlib.Core.Logic.{_⊎_, inl, inr, ⊎-elim}
 use mathlib.Core.List.{List, [], _∷_, _++_}
 use mathlib.Core.Option.{Option, none, some}
@@ -15,14 +15,14 @@ use lib.Seq.{take-take, take-add, take-append-le, take-all, drop-at, length-take
 use mir.Syntax.{Width, w32, w64}
 use mir.Val.{toZ}
 use borrow.Author.Tests.{le-leb, leb-true}
-use Rattle.refusal.specs.Refusal.{Refusal, negativeLength, pastEnd}
+use Rattle.refusal.specs.Refusal.{Refusal, negativeLength, pastEnd, notUtf8}
 use Rattle.types.specs.Answer.{Answer, got, refused, andThen}
 use Rattle.types.specs.Number.{be, part}
 use Rattle.utf8.specs.Utf8.{utf8}
-use Rattle.types.specs.Read.{Place, numberAt, signedAt, byteAt, shortAt, intAt, longAt, runAt, textAt, uuidAt, natural, countAt, longText, nullableRun, shortBytesAt, stringAt, longStringAt, bytesAt, strings, stringsAt, listed, stringListAt}
+use Rattle.types.specs.Read.{Place, place, numberAt, signedAt, byteAt, shortAt, intAt, longAt, runAt, textAt, uuidAt, natural, countAt, longText, nullableRun, shortBytesAt, stringAt, longStringAt, bytesAt, strings, stringsAt, listed, stringListAt}
 use Rattle.types.specs.Steady.{Local, Steady}
-use Rattle.types.proofs.Reading.{then-got, then-refused, number-read, number-past, run-read, run-past, text-read, text-not, text-past}
-use Rattle.types.proofs.Found.{got-refused, got-next, same-refusal, behind, number-found, run-found, text-found}
+use Rattle.types.proofs.Reading.{then-got, then-refused, number-read, run-read, text-read}
+use Rattle.types.proofs.Found.{got-refused, got-value, got-next, same-refusal, behind}
 
 -- ---- parts
 
@@ -39,14 +39,12 @@ part-more s q at n h =
     part-same s (s ++ q) at n h (omega arith) (take-append-le (at + n) s q h)
 
 -- the first k bytes are at most k, and at most as many as there are
-length-front : (k : ℕ) (s : List ℕ) → (length (take k s) ≤ k) × (length (take k s) ≤ length s)
-length-front k s =
+length-take-most : (k : ℕ) (s : List ℕ) → (length (take k s) ≤ k) × (length (take k s) ≤ length s)
+length-take-most k s =
     elim (decLe k (length s)) [
       | yes h ↦ let e : length (take k s) ≡ k = length-take-le k s h in omega arith
       | no h ↦ let e : length (take k s) ≡ length s = ap length (take-all k s (le-of-lt (lt-of-not-le h))) in let j : length s < k = lt-of-not-le h in omega arith
     ]
-
--- ---- what it means
 
 -- ---- what follows
 
@@ -76,7 +74,7 @@ module _ {A : Type 0} (read : List ℕ → ℕ → Answer A) (steady : Steady re
   same-front : (k : ℕ) {v : A} {next : ℕ} → read (take k s) at ≡ got v next → (read s at ≡ got v next) × (next ≤ k)
   same-front k {next = next} e =
       let h : next ≤ length (take k s) = steady .bounded (take k s) at e in
-      let b = length-front k s in
+      let b = length-take-most k s in
       let l : next ≤ k = omega (arith, b .0) in
       let m : next ≤ length s = omega (arith, b .1) in
       (steady .local .same (take k s) s at e (sym (take-take next k s l)) m, l)
@@ -200,81 +198,60 @@ local-refused why =
 
 -- ---- the notations
 
--- n bytes that mean something by themselves
-record Fixed {A : Type 0} (n : ℕ) (read : List ℕ → ℕ → Answer A) : Type 0 where
-  room : (s : List ℕ) (at : ℕ) {v : A} {end : ℕ} → read s at ≡ got v end → at + n ≤ length s
-  ends : (s : List ℕ) (at : ℕ) {v : A} {end : ℕ} → read s at ≡ got v end → end ≡ at + n
-  again : (s t : List ℕ) (at : ℕ) {v : A} {end : ℕ} → read s at ≡ got v end → at + n ≤ length t → part t at n ≡ part s at n → read t at ≡ got v end
-  firm : (s q : List ℕ) (at : ℕ) {e : Refusal} → read s at ≡ refused e → (e ≡ pastEnd) ⊎ (read (s ++ q) at ≡ refused e)
+-- n bytes that mean something by themselves, where there is room for them and they pass a test
+module _ {A : Type 0} (n : ℕ) (fit : List ℕ → Bool) (why : Refusal) (value : ℕ → List ℕ → A) where
+  judged : Bool → Bool → ℕ → List ℕ → Answer A
+  judged room fits at bytes = cond room (cond fits (got (value at bytes) (at + n)) (refused why)) (refused pastEnd)
 
-steady-fixed : {A : Type 0} {n : ℕ} {read : List ℕ → ℕ → Answer A} → Fixed n read → Steady read
-steady-fixed {A} {n} {read} f =
-    record {
-      local = record {
-        on = λ s at e. omega (arith, f .ends s at e);
-        inside = λ s at h e. omega (arith, f .ends s at e, f .room s at e);
-        same = λ s t at e p h.
-            let z = f .ends s at e in
-            let k : at + n ≤ length t = subst (λ (j : ℕ). j ≤ length t) z h in
-            f .again s t at e k (part-same s t at n (f .room s at e) k (subst (λ (j : ℕ). take j t ≡ take j s) z p));
-        firm = f .firm;
-      };
-      bounded = λ s at e. omega (arith, f .ends s at e, f .room s at e);
-    }
+  found : (room fits : Bool) (at : ℕ) (bytes : List ℕ) {v : A} {end : ℕ} → judged room fits at bytes ≡ got v end → (room ≡ true) × (fits ≡ true) × (value at bytes ≡ v) × (at + n ≡ end)
+  unfolding judged
+  found true true at bytes e = (refl, refl, got-value e, got-next e)
+  found true false at bytes e = absurd (got-refused e)
+  found false fits at bytes e = absurd (got-refused e)
+
+  steady-part : (read : List ℕ → ℕ → Answer A) → ((s : List ℕ) (at : ℕ) → read s at ≡ judged (leb (at + n) (length s)) (fit (part s at n)) at (part s at n)) → Steady read
+  unfolding judged
+  steady-part read is =
+      record {
+        local = record {
+          on = λ s at e. omega (arith, met s at e .3);
+          inside = λ s at h e. inside s at e;
+          same = λ s t at {v} e p h.
+              let f = met s at e in
+              let k : at + n ≤ length t = subst (λ (j : ℕ). j ≤ length t) (sym (f .3)) h in
+              let b = part-same s t at n (leb-true (at + n) (length s) (f .0)) k (subst (λ (j : ℕ). take j t ≡ take j s) (sym (f .3)) p) in
+              is t at ∙ ap₂ (λ room fits. judged room fits at (part t at n)) (le-leb (at + n) (length t) k) (ap fit b ∙ f .1) ∙ ap₂ got (ap (value at) b ∙ f .2) (f .3);
+          firm = λ s q at {e} r. firm s q at (leb (at + n) (length s)) (fit (part s at n)) refl refl (sym (is s at) ∙ r);
+        };
+        bounded = inside;
+      }
+    where
+      met : (s : List ℕ) (at : ℕ) {v : A} {end : ℕ} → read s at ≡ got v end → (leb (at + n) (length s) ≡ true) × (fit (part s at n) ≡ true) × (value at (part s at n) ≡ v) × (at + n ≡ end)
+      met s at e = found (leb (at + n) (length s)) (fit (part s at n)) at (part s at n) (sym (is s at) ∙ e)
+
+      inside : (s : List ℕ) (at : ℕ) {v : A} {end : ℕ} → read s at ≡ got v end → end ≤ length s
+      inside s at e = let f = met s at e in omega (arith, f .3, leb-true (at + n) (length s) (f .0))
+
+      firm : (s q : List ℕ) (at : ℕ) {e : Refusal} (room fits : Bool) → leb (at + n) (length s) ≡ room → fit (part s at n) ≡ fits
+          → judged room fits at (part s at n) ≡ refused e → (e ≡ pastEnd) ⊎ (read (s ++ q) at ≡ refused e)
+      firm s q at true true h f r = absurd (got-refused (sym r))
+      firm s q at false fits h f r = inl (sym (same-refusal r))
+      firm s q at true false h f r =
+          let k : at + n ≤ length s = leb-true (at + n) (length s) h in
+          let l : length (s ++ q) ≡ length s + length q = length-append s q in
+          inr (is (s ++ q) at ∙ ap₂ (λ room fits. judged room fits at (part (s ++ q) at n)) (le-leb (at + n) (length (s ++ q)) (omega arith)) (ap fit (part-more s q at n k) ∙ f) ∙ r)
 
 pub steady-number : (n : ℕ) → Steady (numberAt n)
-steady-number n =
-    steady-fixed {n = n}
-    (record {
-      room = λ s at e. number-found n s at e .room;
-      ends = λ s at e. number-found n s at e .ends;
-      again = λ s t at e h p.
-          let f = number-found n s at e in
-          number-read n t at (le-leb (at + n) (length t) h) ∙ ap₂ (λ (x k : ℕ). got x k) (ap be p ∙ sym (f .value)) (sym (f .ends));
-      firm = λ s q at {e} r. by-room s q at e (leb (at + n) (length s)) refl r;
-    })
-  where
-    by-room : (s q : List ℕ) (at : ℕ) (e : Refusal) (t : Bool) → leb (at + n) (length s) ≡ t → numberAt n s at ≡ refused e → (e ≡ pastEnd) ⊎ (numberAt n (s ++ q) at ≡ refused e)
-    by-room s q at e true p r = absurd (got-refused (sym r ∙ number-read n s at p))
-    by-room s q at e false p r = inl (same-refusal (sym r ∙ number-past n s at p))
+unfolding judged
+steady-number n = steady-part n (λ bytes. true) pastEnd (λ at. be) (numberAt n) (λ s at. number-read n s at refl)
 
 pub steady-run : (n : ℕ) → Steady (λ s at. runAt s n at)
-steady-run n =
-    steady-fixed {n = n}
-    (record {
-      room = λ s at e. run-found n s at e .room;
-      ends = λ s at e. run-found n s at e .ends;
-      again = λ s t at e h p.
-          let f = run-found n s at e in
-          run-read n t at (le-leb (at + n) (length t) h) ∙ ap₂ (λ (x : Place) (k : ℕ). got x k) (sym (f .value)) (sym (f .ends));
-      firm = λ s q at {e} r. by-room s q at e (leb (at + n) (length s)) refl r;
-    })
-  where
-    by-room : (s q : List ℕ) (at : ℕ) (e : Refusal) (t : Bool) → leb (at + n) (length s) ≡ t → runAt s n at ≡ refused e → (e ≡ pastEnd) ⊎ (runAt (s ++ q) n at ≡ refused e)
-    by-room s q at e true p r = absurd (got-refused (sym r ∙ run-read n s at p))
-    by-room s q at e false p r = inl (same-refusal (sym r ∙ run-past n s at p))
+unfolding judged
+steady-run n = steady-part n (λ bytes. true) pastEnd (λ at bytes. place at n) (λ s at. runAt s n at) (λ s at. run-read n s at refl)
 
 pub steady-text : (n : ℕ) → Steady (λ s at. textAt s n at)
-steady-text n =
-    steady-fixed {n = n}
-    (record {
-      room = λ s at e. text-found n s at e .run .room;
-      ends = λ s at e. text-found n s at e .run .ends;
-      again = λ s t at e h p.
-          let f = text-found n s at e in
-          text-read n t at (le-leb (at + n) (length t) h) (ap utf8 p ∙ f .text) ∙ ap₂ (λ (x : Place) (k : ℕ). got x k) (sym (f .run .value)) (sym (f .run .ends));
-      firm = λ s q at {e} r. by-room s q at e (leb (at + n) (length s)) refl (utf8 (part s at n)) refl r;
-    })
-  where
-    by-room : (s q : List ℕ) (at : ℕ) (e : Refusal) (t : Bool) → leb (at + n) (length s) ≡ t → (u : Bool) → utf8 (part s at n) ≡ u → textAt s n at ≡ refused e
-        → (e ≡ pastEnd) ⊎ (textAt (s ++ q) n at ≡ refused e)
-    by-room s q at e false p u z r = inl (same-refusal (sym r ∙ text-past n s at p))
-    by-room s q at e true p true z r = absurd (got-refused (sym r ∙ text-read n s at p z))
-    by-room s q at e true p false z r =
-        let h : at + n ≤ length s = leb-true (at + n) (length s) p in
-        let l : length (s ++ q) ≡ length s + length q = length-append s q in
-        inr
-        (text-not n (s ++ q) at (le-leb (at + n) (length (s ++ q)) (omega arith)) (ap utf8 (part-more s q at n h) ∙ z) ∙ sym (text-not n s at p z) ∙ r)
+unfolding judged
+steady-text n = steady-part n utf8 notUtf8 (λ at bytes. place at n) (λ s at. textAt s n at) (λ s at. text-read n s at refl refl)
 
 pub steady-signed : (w : Width) (n : ℕ) → Steady (signedAt w n)
 unfolding signedAt

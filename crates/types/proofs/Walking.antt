@@ -7,10 +7,10 @@ use native.Mathlib.Omega.{arith}
 use lib.ListN.{length}
 use Rattle.refusal.specs.Refusal.{Refusal}
 use Rattle.types.specs.Answer.{Answer, got, refused, andThen}
-use Rattle.types.specs.Read.{Place, Strings, strings, shortAt, stringAt, stringsAt, listed, stringListAt, stepAt}
+use Rattle.types.specs.Read.{Place, strings, stringAt, stringsAt, stringListAt, stepAt}
 use Rattle.types.specs.Along.{Walks, ends, stops, meets}
 use Rattle.types.proofs.Reading.{then-got, then-refused}
-use Rattle.types.proofs.Found.{behind, got-value, got-next, got-refused, same-refusal}
+use Rattle.types.proofs.Found.{behind, got-value, got-next, got-refused, same-refusal, list-found}
 
 -- n strings that are read are met one after the other, and no other
 pub walk-read : (s : List ℕ) (n at : ℕ) {ps : List Place} {end : ℕ} → stringsAt s n at ≡ got ps end → Walks s n at ps (got tt end) × (length ps ≡ n)
@@ -45,23 +45,13 @@ unfolding stringsAt
 walk-refused s zero at e = absurd (got-refused (sym e))
 walk-refused s (suc n) at {why} e = refused-from s n at why (λ next f. walk-refused s n next f) (stringAt s at) refl e
 
--- the strings of a list that is read
-pub list-strings : (s : List ℕ) (at : ℕ) {n start end : ℕ} → stringListAt s at ≡ got (strings n start) end → (ps : List Place) × (stringsAt s n start ≡ got ps end)
-unfolding stringListAt listed
-list-strings s at {n} {start} {end} e =
-    let h = behind (shortAt s at) (listed s) e in
-    let k = behind (stringsAt s (h .value) (h .next)) (λ ps next. got (strings (h .value) (h .next)) next) (h .then) in
-    let en : h .value ≡ n = ap (λ (x : Strings). x .count) (got-value (k .then)) in
-    let es : h .next ≡ start = ap (λ (x : Strings). x .start) (got-value (k .then)) in
-    (k .value, sym (ap₂ (stringsAt s) en es) ∙ k .first ∙ ap (got (k .value)) (got-next (k .then)))
-
--- they are walked along from the first on: as many texts as the count says, and the same end
+-- the strings of a list that is read are walked along from the first on: as many texts as the count says, and the same end
 pub list-walks : (s : List ℕ) (at : ℕ) {n start end : ℕ} → stringListAt s at ≡ got (strings n start) end
     → (ps : List Place) × Walks s n start ps (got tt end) × (length ps ≡ n)
 list-walks s at {n} {start} e =
-    let r = list-strings s at e in
-    let w = walk-read s n start (r .1) in
-    (r .0, w .0, w .1)
+    let r = list-found s at e in
+    let w = walk-read s n start (r .2) in
+    (r .1, w .0, w .1)
 
 -- and there is only one walk: the steps say all of it
 none-some : {x : Place × ℕ} → none ≡ some x → ⊥

@@ -46,7 +46,7 @@ number-back n x f s at h =
 
 pub signed-back : (w : Width) (n : ℕ) (z : ℤ) → SFits w z → ofZ w z < 256 ^ n → ReadsBack (signedAt w n) (digits n (ofZ w z)) (λ at. z)
 signed-back w n z fits f s at h =
-    signed-read n s at w (room-of (length-digits n (ofZ w z)) h)
+    signed-read n s at (room-of (length-digits n (ofZ w z)) h) w
     ∙ ap₂ (λ (v : ℤ) (k : ℕ). got v (at + k)) (ap (toZ w) (held-number s at n (ofZ w z) f h) ∙ toZ-ofZ w z fits) (sym (length-digits n (ofZ w z)))
 
 pub short-back : (x : ℕ) → x < 65536 → ReadsBack shortAt (digits 2 x) (λ at. x)

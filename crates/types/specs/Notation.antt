@@ -78,7 +78,7 @@ longString = behindCount 4 longStringAt (textCheck maxInt)
 abbrev pub stringList : Notation Strings (List ℕ × List ℕ)
 stringList = record {
   read = stringListAt;
-  shows = λ s l. textAndLengths (textsOf s (stringsAt s (l .count) (l .start)));
+  shows = λ s l. textAndLengths (textsOf s (stringsAt s (l .left) (l .at)));
   Given = Always;
   check = λ g. listCheck (g .0) (g .1);
   written = λ g. listBytes (cutBy (g .0) (g .1));

@@ -18,22 +18,22 @@ use Rattle.utf8.specs.Utf8.{utf8}
 -- where some bytes stand
 pub record Place : Type 0 where
   pub start : ℕ
-  pub count : ℕ
+  pub len : ℕ
 
 abbrev pub place : ℕ → ℕ → Place
-place start count = record { start = start; count = count }
+place start len = record { start = start; len = len }
 
 -- the bytes that stand there: none where the place runs past the end
 unfoldable pub bytesIn : List ℕ → Place → List ℕ
-bytesIn s p = cond (leb (p .start + p .count) (length s)) (part s (p .start) (p .count)) []
+bytesIn s p = cond (leb (p .start + p .len) (length s)) (part s (p .start) (p .len)) []
 
 -- some strings, one behind the other: how many, and where the first begins
 pub record Strings : Type 0 where
-  pub count : ℕ
-  pub start : ℕ
+  pub left : ℕ
+  pub at : ℕ
 
 abbrev pub strings : ℕ → ℕ → Strings
-strings count start = record { count = count; start = start }
+strings left at = record { left = left; at = at }
 
 -- ---- numbers
 

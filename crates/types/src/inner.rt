@@ -18,21 +18,15 @@ pub fn room(len: usize, at: usize, n: usize) -> bool
     if at <= len { n <= len - at } else { false }
 }
 
-fn wide(x: u8) -> u64
-    ensures { λ r. ⌜ r ≡ x ⌝ }
-{
-    x as u64
-}
-
 // The number of the n bytes from at on.
-pub fn number(bytes: &[u8], at: usize, n: usize) -> u64
+pub fn read_number(bytes: &[u8], at: usize, n: usize) -> u64
     requires { ⌜ (n ≤ 8) × (at + n ≤ length (now bytes)) ⌝ }
     ensures { λ r. ⌜ (r ≡ be (part (now (bytes .entry)) at n)) × (r < 256 ^ n) ⌝ }
 {
     let mut value: u64 = 0;
     let mut i: usize = 0;
     while i < n {
-        let b = wide(bytes[at + i]);
+        let b = bytes[at + i] as u64;
         value = value * 256 + b;
         i += 1;
     }

@@ -21,7 +21,7 @@ pub fn read_byte(bytes: &[u8], at: usize) -> ReadByte
     ensures { λ r. ⌜ paperByte r ≡ byteAt (now (bytes .entry)) at ⌝ }
 {
     if inner::room(bytes.len(), at, 1) {
-        let x = inner::number(bytes, at, 1);
+        let x = inner::read_number(bytes, at, 1);
         let next = at + 1;
         ReadByte::Value(x as u8, next)
     } else {
@@ -33,7 +33,7 @@ pub fn read_short(bytes: &[u8], at: usize) -> ReadShort
     ensures { λ r. ⌜ paperShort r ≡ shortAt (now (bytes .entry)) at ⌝ }
 {
     if inner::room(bytes.len(), at, 2) {
-        let x = inner::number(bytes, at, 2);
+        let x = inner::read_number(bytes, at, 2);
         let next = at + 2;
         ReadShort::Value(x as u16, next)
     } else {
@@ -45,7 +45,7 @@ pub fn read_int(bytes: &[u8], at: usize) -> ReadInt
     ensures { λ r. ⌜ paperInt r ≡ intAt (now (bytes .entry)) at ⌝ }
 {
     if inner::room(bytes.len(), at, 4) {
-        let x = inner::number(bytes, at, 4);
+        let x = inner::read_number(bytes, at, 4);
         let z = number::signed32(x as u32);
         let next = at + 4;
         ReadInt::Value(z, next)
@@ -58,7 +58,7 @@ pub fn read_long(bytes: &[u8], at: usize) -> ReadLong
     ensures { λ r. ⌜ paperLong r ≡ longAt (now (bytes .entry)) at ⌝ }
 {
     if inner::room(bytes.len(), at, 8) {
-        let x = inner::number(bytes, at, 8);
+        let x = inner::read_number(bytes, at, 8);
         let z = number::signed64(x);
         let next = at + 8;
         ReadLong::Value(z, next)
@@ -78,7 +78,7 @@ fn read_count(bytes: &[u8], at: usize) -> Count
     ensures { λ r. ⌜ paperCount r ≡ countAt (now (bytes .entry)) at ⌝ }
 {
     if inner::room(bytes.len(), at, 4) {
-        let x = inner::number(bytes, at, 4);
+        let x = inner::read_number(bytes, at, 4);
         let next = at + 4;
         if x < 0x8000_0000 {
             Count::Bytes(x as usize, next)

@@ -1,11 +1,7 @@
 -- `frame_encoder::close` meets its contract: the check is that of the payload, which stays where it stands. Assumes nothing.
-use Prim.Native.Nat.{ℕ, _+_}
 use mathlib.Core.Path.{ap, _∙_}
 use Rattle.crc.specs.Check32.{crc32}
-use Rattle.types.specs.Number.{part}
-use Rattle.types.specs.Write.{put}
 use Rattle.types.proofs.BigEndian.{part-of}
-use Rattle.segment.specs.LittleEndian.{leDigits}
 use Rattle.segment.specs.Paper.{paperForm}
 use Rattle.frame_encoder.proofs.Laid.{closed}
 use borrow.Author.Needs.{needs}
@@ -28,10 +24,10 @@ close-spec =
     (λ c κs. search needs)
     (λ c. search needs)
     (λ c.
-    let a = c .before .before .before .before .before .before .before .before .before .before .before .before .before .args in
-    let k = c .before .before .before .before .before .before .before .before .before .before .before .header-len .ensures in
-    let m = c .before .before .before .before .before .before .put-header .last .0 in
-    closed (paperForm (a .form)) (a .self-contained) (a .out .now) (a .payload) (c .before .before .before .before .before .before .before .before .before .before .before .before .before .pre .1)
-    (c .before .before .before .before .before .before .put-header .ensures)
-    (c .before .before .before .before .before .before .before .before .crc32 .ensures ∙ ap crc32 (part-of (a .out .now) (c .before .before .before .before .before .before .before .before .before .before .before .header-len .result) (a .payload) ∙ ap (λ (i : ℕ). part (a .out .now) i (a .payload)) k))
-    (c .before .before .put-number .ensures ∙ ap (λ (i : ℕ). put m (i + a .payload) (leDigits 4 (c .before .before .before .before .before .before .before .before .crc32 .result))) k)))
+    let trailed = c .before .before in
+    let headed = trailed .before .before .before .before in
+    let check = headed .before .before in
+    let len = check .before .before .before in
+    let start = len .before .before in
+    closed (paperForm (start .args .form)) (start .args .self-contained) (start .args .out .now) (start .args .payload) (start .pre .1)
+    (len .header-len .ensures) (headed .put-header .ensures) (check .crc32 .ensures ∙ ap crc32 (part-of (start .args .out .now) (len .header-len .result) (start .args .payload))) (trailed .put-number .ensures)))

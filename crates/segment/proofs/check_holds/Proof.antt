@@ -24,5 +24,5 @@ check-holds-spec =
     let s = c .before .before .before .before .before .args .bytes .now in
     let n = c .before .before .before .number-len .ensures in
     ap₂ (λ (x y : ℕ). eqb x y)
-    (c .before .before .number .ensures .0 ∙ ap (λ (k : ℕ). le (part s k 3)) n)
+    (c .before .before .read-number .ensures .0 ∙ ap (λ (k : ℕ). le (part s k 3)) n)
     (c .crc24 .ensures ∙ ap (λ (k : ℕ). crc24 (take k s)) n)))

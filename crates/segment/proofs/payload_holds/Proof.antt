@@ -21,4 +21,4 @@ payload-holds-spec =
     (λ c. search needs)
     (λ c.
     let a = c .before .before .before .before .args in
-    ap₂ eqb (c .number .ensures .0) (c .before .crc32 .ensures ∙ ap crc32 (part-of (a .bytes .now) (a .start) (a .len)))))
+    ap₂ eqb (c .read-number .ensures .0) (c .before .crc32 .ensures ∙ ap crc32 (part-of (a .bytes .now) (a .start) (a .len)))))

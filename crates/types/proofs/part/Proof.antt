@@ -3,7 +3,7 @@ use mathlib.Core.Path.{sym, _∙_}
 use borrow.Author.Needs.{needs}
 use native.Mathlib.Omega.{arith}
 use Rattle.types.proofs.BigEndian.{part-of}
-use Rattle.types.proofs.Reading.{bytes-there, bytes-none}
+use Rattle.types.proofs.Reading.{bytes-there}
 use Rattle.types.proofs.part.Statement.{statement}
 use Rattle.types.proofs.part.Tie as tie
 
@@ -21,4 +21,4 @@ part-spec =
     let a = c .before .before .before .before .args in
     part-of (a .bytes .now) (a .place .start) (a .place .len)
     ∙ sym (bytes-there _ _ _ (sym (c .before .before .room .ensures .0) ∙ c .before .if1 .taken)))
-    (λ c. sym (bytes-none _ _ _ (sym (c .before .before .room .ensures .0) ∙ c .before .if1 .left))))
+    (λ c. sym (bytes-there _ _ _ (sym (c .before .before .room .ensures .0) ∙ c .before .if1 .left))))

@@ -31,4 +31,4 @@ read-header-spec =
     let s = signed .before .before .before .before .before .args .bytes .now in
     ap₂ (λ (r : Bool) (z : ℤ). record { version = getD s 0 0 % 128; response = r; flags = getD s 1 0 % 32; stream = z; opcode = getD s 4 0 })
     (c .direction-of .ensures)
-    (toZ-ofZ w16 (signed .signed16 .result) (sfits-of (signed .signed16 .ok)) ∙ signed .signed16 .ensures ∙ ap (toZ w16) (signed .before .number .ensures .0))))
+    (toZ-ofZ w16 (signed .signed16 .result) (sfits-of (signed .signed16 .ok)) ∙ signed .signed16 .ensures ∙ ap (toZ w16) (signed .before .read-number .ensures .0))))

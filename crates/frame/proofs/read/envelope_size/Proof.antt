@@ -20,14 +20,14 @@ envelope-size-spec =
     (tie.spec
     (λ c. sym (size-is _ (short (c .if1 .taken))))
     (λ c κs. search needs)
-    (λ c. sym (size-is _ (negative (c .before .before .if1 .left) (ap (λ (x : ℕ). natural (toZ w32 x)) (sym (c .before .number .ensures .0)) ∙ natural-none w32 (c .before .number .result) (c .if2 .taken)))))
+    (λ c. sym (size-is _ (negative (c .before .before .if1 .left) (ap (λ (x : ℕ). natural (toZ w32 x)) (sym (c .before .read-number .ensures .0)) ∙ natural-none w32 (c .before .read-number .result) (c .if2 .taken)))))
     (λ c. search needs)
-    (λ c. sym (size-is _ (cut (c .before .before .before .if1 .left) (ap (λ (x : ℕ). natural (toZ w32 x)) (sym (c .before .before .number .ensures .0)) ∙ natural-some w32 (c .before .before .number .result) (c .before .if2 .left)) (omega arith))))
+    (λ c. sym (size-is _ (cut (c .before .before .before .if1 .left) (ap (λ (x : ℕ). natural (toZ w32 x)) (sym (c .before .before .read-number .ensures .0)) ∙ natural-some w32 (c .before .before .read-number .result) (c .before .if2 .left)) (omega arith))))
     (λ c. search needs)
     (λ c κs. search needs)
     (λ c.
     let tested = c .before .before .before in
-    sym (size-is _ (fits (ap (λ (x : ℕ). natural (toZ w32 x)) (sym (tested .before .before .number .ensures .0)) ∙ natural-some w32 (tested .before .before .number .result) (tested .before .if2 .left)) (omega arith) (sym (c .before .known-version .ensures) ∙ c .if4 .taken))))
+    sym (size-is _ (fits (ap (λ (x : ℕ). natural (toZ w32 x)) (sym (tested .before .before .read-number .ensures .0)) ∙ natural-some w32 (tested .before .before .read-number .result) (tested .before .if2 .left)) (omega arith) (sym (c .before .known-version .ensures) ∙ c .if4 .taken))))
     (λ c.
     let tested = c .before .before .before in
-    sym (size-is _ (unknown (ap (λ (x : ℕ). natural (toZ w32 x)) (sym (tested .before .before .number .ensures .0)) ∙ natural-some w32 (tested .before .before .number .result) (tested .before .if2 .left)) (omega arith) (sym (c .before .known-version .ensures) ∙ c .if4 .left)))))
+    sym (size-is _ (unknown (ap (λ (x : ℕ). natural (toZ w32 x)) (sym (tested .before .before .read-number .ensures .0)) ∙ natural-some w32 (tested .before .before .read-number .result) (tested .before .if2 .left)) (omega arith) (sym (c .before .known-version .ensures) ∙ c .if4 .left)))))

@@ -6,7 +6,7 @@ use denote.Enum.Declared.{tagOf}
 use lib.Seq.{length-take-le}
 use Rattle.frame.specs.Paper.{paperSize}
 use Rattle.frame.specs.declared.Size.{Size}
-use Rattle.frame.proofs.Cases.{size-found, envelope-unfinished, envelope-refused, envelope-inside}
+use Rattle.frame.proofs.Cases.{size-found, envelope-is}
 use Rattle.frame.proofs.Size.{the-type}
 use borrow.Author.Needs.{needs}
 use Rattle.frame.proofs.read.read_envelope.Statement.{statement}
@@ -28,11 +28,11 @@ read-envelope-spec =
     (λ c. search needs)
     (λ c.
     let told = c .before in
-    sym (envelope-refused _ (sym (told .before .before .envelope-size .ensures) ∙ ap paperSize (told .size .given .1))))
+    sym (envelope-is _ (sym (told .before .before .envelope-size .ensures) ∙ ap paperSize (told .size .given .1))))
     (λ c. search needs)
     (λ c.
     let size = c .before .before in
-    sym (envelope-unfinished _ (sym (size .envelope-size .ensures) ∙ ap paperSize (only-incomplete (size .envelope-size .result) (c .before .match .keys2) (c .match2 .keys2)))))
+    sym (envelope-is _ (sym (size .envelope-size .ensures) ∙ ap paperSize (only-incomplete (size .envelope-size .result) (c .before .match .keys2) (c .match2 .keys2)))))
     (λ c.
     let told = c .before .before in
     let size = told .before .before .before in
@@ -46,4 +46,4 @@ read-envelope-spec =
     (λ c.
     let told = c .before .before .before in
     let size = told .before .before .before in
-    c .read-inside .ensures ∙ sym (envelope-inside _ (sym (size .envelope-size .ensures) ∙ ap paperSize (told .size2 .given .1)))))
+    c .read-inside .ensures ∙ sym (envelope-is _ (sym (size .envelope-size .ensures) ∙ ap paperSize (told .size2 .given .1)))))

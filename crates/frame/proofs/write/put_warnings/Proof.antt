@@ -1,18 +1,39 @@
 -- `frame::write::put_warnings` meets its contract: they are there or they are not. Assumes nothing.
-use Prim.Native.Nat.{ℕ, _+_, _≤_}
-use mathlib.Core.Path.{sym, ap, _∙_, subst}
+use Prim.Native.Nat.{ℕ, _+_, _*_, _≤_}
+use mathlib.Core.Path.{_≡_, sym, ap, _∙_, subst}
+use mathlib.Core.Bool.{true}
 use mathlib.Core.List.{List}
-use native.Mathlib.Nat.{add-zero}
 use native.Mathlib.Omega.{arith}
 use lib.ListN.{length}
-use Rattle.types.specs.Write.{put}
-use Rattle.types.proofs.Put.{put-none}
+use Rattle.types.specs.Write.{cutBy, listBytes, lengthsFit}
 use Rattle.types.proofs.Cut.{writes, list-length}
+use Rattle.frame.specs.Write.{warningsPart}
 use Rattle.frame.specs.Paper.{paperHeader}
-use Rattle.frame.proofs.Checked.{check-there, list-there, list-none}
+use Rattle.frame.proofs.Checked.{check-is, list-is}
+use Rattle.frame.proofs.Laid.{part-there, part-none}
 use borrow.Author.Needs.{needs}
 use Rattle.frame.proofs.write.put_warnings.Statement.{statement}
 use Rattle.frame.proofs.write.put_warnings.Tie as tie
+
+abbrev start : tie.After-has-warnings → tie.Start
+start c = c .before .before .before .before
+
+abbrev part : tie.Start → List ℕ
+part s = warningsPart (paperHeader (s .args .header)) (s .args .text .now) (s .args .lens .now)
+
+-- ---- where they are there
+
+is : (c : tie.Then1) → let s = start (c .before) in part s ≡ listBytes (cutBy (s .args .text .now) (s .args .lens .now))
+is c = list-is _ _ _ (sym (c .before .has-warnings .ensures) ∙ c .if1 .taken)
+
+fits : (c : tie.Then1) → let s = start (c .before) in lengthsFit (length (s .args .text .now)) (s .args .lens .now) ≡ true
+fits c = writes _ _ (sym (check-is _ _ _ (sym (c .before .has-warnings .ensures) ∙ c .if1 .taken)) ∙ start (c .before) .pre .0) .lengths
+
+long : (c : tie.Then1) → let s = start (c .before) in length (listBytes (cutBy (s .args .text .now) (s .args .lens .now))) ≡ 2 + 2 * length (s .args .lens .now) + length (s .args .text .now)
+long c = list-length _ _ (fits c)
+
+abbrev there : tie.After-slice-known2 → tie.Then1
+there c = c .before .before .before .before
 
 pub put-warnings-spec : {M : Type 1} → statement M
 put-warnings-spec =
@@ -20,37 +41,12 @@ put-warnings-spec =
     (tie.spec
     (λ c κs. search needs)
     (λ c κs.
-    let has = c .before .before in
-    let a = has .before .before .before .before .args in
-    let asked = has .before .before .before .before .pre in
-    let h = paperHeader (a .header) in
-    let warned = sym (has .has-warnings .ensures) ∙ c .before .if1 .taken in (
-      writes (a .text .now) (a .lens .now) (sym (check-there h (a .text .now) (a .lens .now) warned) ∙ asked .0) .lengths,
-      subst (λ (l : List ℕ). a .at + length l ≤ length (a .out .now)) (list-there h (a .text .now) (a .lens .now) warned) (asked .1),
-    ))
+    let s = start (c .before .before) in
+    (fits (c .before), subst (λ (l : List ℕ). s .args .at + length l ≤ length (s .args .out .now)) (is (c .before)) (s .pre .1)))
     (λ c. search needs)
     (λ c. search needs)
     (λ c. search needs)
-    (λ c.
-    let has = c .before .before .before .before .before in
-    let a = has .before .before .before .before .args in
-    let asked = has .before .before .before .before .pre in
-    let h = paperHeader (a .header) in
-    let warned = sym (has .has-warnings .ensures) ∙ c .before .before .before .before .if1 .taken in
-    let fits = writes (a .text .now) (a .lens .now) (sym (check-there h (a .text .now) (a .lens .now) warned) ∙ asked .0) .lengths in
-    omega (arith, asked .1, ap length (list-there h (a .text .now) (a .lens .now) warned), list-length (a .text .now) (a .lens .now) fits))
+    (λ c. omega (arith, start (there c .before) .pre .1, ap length (is (there c)), long (there c)))
     (λ c. search needs)
-    (λ c.
-    let has = c .before .before .before .before .before in
-    let a = has .before .before .before .before .args in
-    let asked = has .before .before .before .before .pre in
-    let h = paperHeader (a .header) in
-    let warned = sym (has .has-warnings .ensures) ∙ c .before .before .before .before .if1 .taken in
-    let fits = writes (a .text .now) (a .lens .now) (sym (check-there h (a .text .now) (a .lens .now) warned) ∙ asked .0) .lengths in
-    let is = list-there h (a .text .now) (a .lens .now) warned in
-    (ap (λ (k : ℕ). a .at + k) (sym (ap length is ∙ list-length (a .text .now) (a .lens .now) fits)), c .before .before .put-list .ensures ∙ ap (put (a .out .now) (a .at)) (sym is)))
-    (λ c.
-    let has = c .before in
-    let a = has .before .before .before .before .args in
-    let is = list-none (paperHeader (a .header)) (a .text .now) (a .lens .now) (sym (has .has-warnings .ensures) ∙ c .if1 .left) in
-    (sym (ap (λ (l : List ℕ). a .at + length l) is ∙ add-zero (a .at)), sym (ap (put (a .out .now) (a .at)) is ∙ put-none (a .out .now) (a .at)))))
+    (λ c. part-there _ _ (is (there c)) (long (there c)) (c .before .before .put-list .ensures))
+    (λ c. part-none _ _ (list-is _ _ _ (sym (c .before .has-warnings .ensures) ∙ c .if1 .left))))

@@ -8,7 +8,7 @@ use mir.Syntax.{w32}
 use mir.Val.{toZ}
 use Rattle.types.specs.Answer.{got}
 use Rattle.types.specs.Read.{natural}
-use Rattle.types.proofs.Reading.{count-read, count-past, natural-some, natural-none}
+use Rattle.types.proofs.Reading.{count-read, natural-some, natural-none}
 use Rattle.types.proofs.read.read_count.Statement.{statement}
 use Rattle.types.proofs.read.read_count.Tie as tie
 
@@ -22,11 +22,11 @@ read-count-spec =
     (λ c.
     let next = c .before .before .before .before .before .args .at + 4 in
     ap (λ (n : Option ℕ). got n next)
-    (sym (natural-some w32 (c .before .number .result) (c .if2 .taken)) ∙ ap (λ (x : ℕ). natural (toZ w32 x)) (c .before .number .ensures .0))
+    (sym (natural-some w32 (c .before .read-number .result) (c .if2 .taken)) ∙ ap (λ (x : ℕ). natural (toZ w32 x)) (c .before .read-number .ensures .0))
     ∙ sym (count-read _ _ (sym (c .before .before .before .room .ensures .0) ∙ c .before .before .if1 .taken)))
     (λ c.
     let next = c .before .before .before .before .before .args .at + 4 in
     ap (λ (n : Option ℕ). got n next)
-    (sym (natural-none w32 (c .before .number .result) (c .if2 .left)) ∙ ap (λ (x : ℕ). natural (toZ w32 x)) (c .before .number .ensures .0))
+    (sym (natural-none w32 (c .before .read-number .result) (c .if2 .left)) ∙ ap (λ (x : ℕ). natural (toZ w32 x)) (c .before .read-number .ensures .0))
     ∙ sym (count-read _ _ (sym (c .before .before .before .room .ensures .0) ∙ c .before .before .if1 .taken)))
-    (λ c. sym (count-past _ _ (sym (c .before .room .ensures .0) ∙ c .if1 .left))))
+    (λ c. sym (count-read _ _ (sym (c .before .room .ensures .0) ∙ c .if1 .left))))

@@ -8,7 +8,7 @@ use mir.Syntax.{w32}
 use mir.Val.{toZ}
 use mir.ValLaws.{toZ-ofZ}
 use Rattle.types.specs.Answer.{got}
-use Rattle.types.proofs.Reading.{signed-read, signed-past}
+use Rattle.types.proofs.Reading.{signed-read}
 use Rattle.types.proofs.read.read_int.Statement.{statement}
 use Rattle.types.proofs.read.read_int.Tie as tie
 
@@ -24,6 +24,6 @@ read-int-spec =
     (λ c.
     let next = c .before .before .before .before .before .args .at + 4 in
     ap (λ (z : ℤ). got z next)
-    (toZ-ofZ w32 (c .signed32 .result) (sfits-of (c .signed32 .ok)) ∙ c .signed32 .ensures ∙ ap (toZ w32) (c .before .number .ensures .0))
-    ∙ sym (signed-read 4 _ _ w32 (sym (c .before .before .before .room .ensures .0) ∙ c .before .before .if1 .taken)))
-    (λ c. sym (signed-past 4 _ _ w32 (sym (c .before .room .ensures .0) ∙ c .if1 .left))))
+    (toZ-ofZ w32 (c .signed32 .result) (sfits-of (c .signed32 .ok)) ∙ c .signed32 .ensures ∙ ap (toZ w32) (c .before .read-number .ensures .0))
+    ∙ sym (signed-read 4 _ _ (sym (c .before .before .before .room .ensures .0) ∙ c .before .before .if1 .taken) w32))
+    (λ c. sym (signed-read 4 _ _ (sym (c .before .room .ensures .0) ∙ c .if1 .left) w32)))

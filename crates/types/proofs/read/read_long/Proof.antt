@@ -8,7 +8,7 @@ use mir.Syntax.{w64}
 use mir.Val.{toZ}
 use mir.ValLaws.{toZ-ofZ}
 use Rattle.types.specs.Answer.{got}
-use Rattle.types.proofs.Reading.{signed-read, signed-past}
+use Rattle.types.proofs.Reading.{signed-read}
 use Rattle.types.proofs.read.read_long.Statement.{statement}
 use Rattle.types.proofs.read.read_long.Tie as tie
 
@@ -23,6 +23,6 @@ read-long-spec =
     (λ c.
     let next = c .before .before .before .before .before .args .at + 8 in
     ap (λ (z : ℤ). got z next)
-    (toZ-ofZ w64 (c .signed64 .result) (sfits-of (c .signed64 .ok)) ∙ c .signed64 .ensures ∙ ap (toZ w64) (c .before .number .ensures .0))
-    ∙ sym (signed-read 8 _ _ w64 (sym (c .before .before .before .room .ensures .0) ∙ c .before .before .if1 .taken)))
-    (λ c. sym (signed-past 8 _ _ w64 (sym (c .before .room .ensures .0) ∙ c .if1 .left))))
+    (toZ-ofZ w64 (c .signed64 .result) (sfits-of (c .signed64 .ok)) ∙ c .signed64 .ensures ∙ ap (toZ w64) (c .before .read-number .ensures .0))
+    ∙ sym (signed-read 8 _ _ (sym (c .before .before .before .room .ensures .0) ∙ c .before .before .if1 .taken) w64))
+    (λ c. sym (signed-read 8 _ _ (sym (c .before .room .ensures .0) ∙ c .if1 .left) w64)))

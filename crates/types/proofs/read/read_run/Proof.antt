@@ -2,7 +2,7 @@
 use mathlib.Core.Path.{sym, _∙_}
 use borrow.Author.Needs.{needs}
 use native.Mathlib.Omega.{arith}
-use Rattle.types.proofs.Reading.{run-read, run-past}
+use Rattle.types.proofs.Reading.{run-read}
 use Rattle.types.proofs.read.read_run.Statement.{statement}
 use Rattle.types.proofs.read.read_run.Tie as tie
 
@@ -13,4 +13,4 @@ read-run-spec =
     (λ c κs. search needs)
     (λ c. omega (arith, c .before .room .ensures .1 (c .if1 .taken)))
     (λ c. sym (run-read _ _ _ (sym (c .before .room .ensures .0) ∙ c .if1 .taken)))
-    (λ c. sym (run-past _ _ _ (sym (c .before .room .ensures .0) ∙ c .if1 .left))))
+    (λ c. sym (run-read _ _ _ (sym (c .before .room .ensures .0) ∙ c .if1 .left))))

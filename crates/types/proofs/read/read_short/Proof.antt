@@ -4,7 +4,7 @@ use mathlib.Core.Path.{sym, ap, _∙_}
 use borrow.Author.Needs.{needs}
 use native.Mathlib.Omega.{arith}
 use Rattle.types.specs.Answer.{got}
-use Rattle.types.proofs.Reading.{number-read, number-past}
+use Rattle.types.proofs.Reading.{number-read}
 use Rattle.types.proofs.read.read_short.Statement.{statement}
 use Rattle.types.proofs.read.read_short.Tie as tie
 
@@ -17,6 +17,6 @@ read-short-spec =
     (λ c. omega (arith, c .before .before .room .ensures .1 (c .before .if1 .taken)))
     (λ c. search needs)
     (λ c.
-    ap (λ (x : ℕ). got x (c .before .before .before .before .args .at + 2)) (c .number .ensures .0)
+    ap (λ (x : ℕ). got x (c .before .before .before .before .args .at + 2)) (c .read-number .ensures .0)
     ∙ sym (number-read 2 _ _ (sym (c .before .before .room .ensures .0) ∙ c .before .if1 .taken)))
-    (λ c. sym (number-past 2 _ _ (sym (c .before .room .ensures .0) ∙ c .if1 .left))))
+    (λ c. sym (number-read 2 _ _ (sym (c .before .room .ensures .0) ∙ c .if1 .left))))

@@ -1,10 +1,10 @@
 -- `types::read::read_text` meets its contract: the room is tested before the text. Assumes nothing.
-use mathlib.Core.Path.{sym, ap, _∙_}
+use mathlib.Core.Path.{refl, sym, ap, _∙_}
 use borrow.Author.Needs.{needs}
 use native.Mathlib.Omega.{arith}
 use Rattle.utf8.specs.Utf8.{utf8}
 use Rattle.types.proofs.BigEndian.{part-of}
-use Rattle.types.proofs.Reading.{text-read, text-not, text-past}
+use Rattle.types.proofs.Reading.{text-read}
 use Rattle.types.proofs.read.read_text.Statement.{statement}
 use Rattle.types.proofs.read.read_text.Tie as tie
 
@@ -28,6 +28,6 @@ read-text-spec =
     let tested = c .before .before .before in
     let a = tested .before .before .before .args in
     sym
-    (text-not _ _ _ (sym (tested .before .room .ensures .0) ∙ tested .if1 .taken)
+    (text-read _ _ _ (sym (tested .before .room .ensures .0) ∙ tested .if1 .taken)
     (sym (ap utf8 (part-of (a .bytes .now) (a .at) (a .n))) ∙ sym (c .before .is-utf8 .ensures) ∙ c .if2 .left)))
-    (λ c. sym (text-past _ _ _ (sym (c .before .room .ensures .0) ∙ c .if1 .left))))
+    (λ c. sym (text-read _ _ _ (sym (c .before .room .ensures .0) ∙ c .if1 .left) refl)))

@@ -1,17 +1,17 @@
--- `segment::number` meets its contract: the fields have bits of their own. Assumes nothing.
+-- `segment::header_number` meets its contract: the fields have bits of their own. Assumes nothing.
 use Prim.Native.Nat.{ℕ, _+_, _%_}
 use mathlib.Core.Path.{ap₂}
 use native.Mathlib.Omega.{arith}
-use Rattle.segment.specs.Header.{lengths, numberOf}
+use Rattle.segment.specs.Header.{lengths, headerNumber}
 use Rattle.segment.specs.Paper.{paperForm}
 use Rattle.segment.proofs.HeaderBits.{part-most, weight-most}
 use borrow.Author.Needs.{needs}
-use Rattle.segment.proofs.number.Statement.{statement}
-use Rattle.segment.proofs.number.Tie as tie
+use Rattle.segment.proofs.header_number.Statement.{statement}
+use Rattle.segment.proofs.header_number.Tie as tie
 
-pub number-spec : {M : Type 1} → statement M
-unfolding numberOf
-number-spec =
+pub header-number-spec : {M : Type 1} → statement M
+unfolding headerNumber
+header-number-spec =
     tie.close
     (tie.spec
     (λ c. search needs)
