@@ -8,7 +8,7 @@ use cases::words;
 use frame::Envelope;
 use frame_decoder::Answer;
 use frame_decoder::Buffer;
-use frame_decoder::Reader;
+use frame_decoder::FrameDecoder;
 use frame_decoder::Step;
 use refusal::Refusal;
 use segment::Form;
@@ -115,7 +115,7 @@ fn said<'a>(step: Step, cursor: Cursor, segment: &'a [u8], reassembly: &'a [u8])
 
 // So many calls are enough for any stream here: the largest payload has 14,563 envelopes.
 fn use_up(form: Form, cut: usize, segment: &mut [u8], reassembly: &mut [u8], bytes: &[u8]) {
-    let mut reader = Reader::new(form, 131_083, 262_144);
+    let mut reader = FrameDecoder::new(form, 131_083, 262_144);
     let mut cursor = first_piece(cut);
     let mut turns: usize = 200_000;
     while 0 < turns {

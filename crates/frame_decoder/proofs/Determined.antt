@@ -10,11 +10,11 @@ use Rattle.frame_decoder.specs.Paper.{paperReader, paperBuffer}
 use Rattle.frame_decoder.proofs.Told.{reader-told, Lent, lent-apart, Seen, step-apart}
 use Rattle.frame_decoder.proofs.in_range.Reads as ranges
 use Rattle.frame_decoder.proofs.part.Reads as parts
-use Rattle.frame_decoder.proofs.Reader.new.Reads as news
-use Rattle.frame_decoder.proofs.Reader.filled.Reads as fills
-use Rattle.frame_decoder.proofs.Reader.held.Reads as holds
-use Rattle.frame_decoder.proofs.Reader.read.Reads as reads
-use Rattle.frame_decoder.proofs.Reader.consume as lents
+use Rattle.frame_decoder.proofs.FrameDecoder.new.Reads as news
+use Rattle.frame_decoder.proofs.FrameDecoder.filled.Reads as fills
+use Rattle.frame_decoder.proofs.FrameDecoder.held.Reads as holds
+use Rattle.frame_decoder.proofs.FrameDecoder.read.Reads as reads
+use Rattle.frame_decoder.proofs.FrameDecoder.consume as lents
 
 pub in-range-determined : Determined ranges.Post
 in-range-determined = by-equation (λ κs a. inRange (a .0) (a .1 .0))

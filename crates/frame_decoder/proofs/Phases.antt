@@ -7,12 +7,12 @@ use Rattle.frame_decoder.specs.Reader.{Counts, countsIn, countsOf}
 use Rattle.frame_decoder.specs.Settle.{settleAt, settle}
 use Rattle.frame_decoder.specs.Paper.{paperPhase, paperReader}
 use Rattle.frame_decoder.specs.declared.Phase.{Phase}
-use Rattle.frame_decoder.specs.declared.Reader.{Reader}
+use Rattle.frame_decoder.specs.declared.FrameDecoder.{FrameDecoder}
 
-abbrev pub countsBy : Reader → Phase → Counts
+abbrev pub countsBy : FrameDecoder → Phase → Counts
 countsBy m q = countsIn (paperForm (m .form)) (m .pending) (paperPhase q)
 
-module _ (m : Reader) {q : Phase} (is : m .phase ≡ q) where
+module _ (m : FrameDecoder) {q : Phase} (is : m .phase ≡ q) where
   pub counts-by : countsBy m q ≡ countsOf (paperReader m)
   counts-by = sym (ap (countsBy m) is)
 

@@ -13,7 +13,7 @@ use Rattle.frame_decoder.specs.Reader.{Phase, inHeader, inRest, inSegmen
 use Rattle.frame_decoder.specs.Call.{Outcome}
 use Rattle.frame_decoder.specs.Paper.{paperPhase, paperReader, paperBuffer, paperAnswer, paperHeard, paperStep}
 use Rattle.frame_decoder.specs.declared.Phase as code-phase
-use Rattle.frame_decoder.specs.declared.Reader as code-reader
+use Rattle.frame_decoder.specs.declared.FrameDecoder as code-decoder
 use Rattle.frame_decoder.specs.declared.Buffer as code-buffer
 use Rattle.frame_decoder.specs.declared.Answer as code-answer
 use Rattle.frame_decoder.specs.declared.Heard.{Heard}
@@ -36,7 +36,7 @@ phase-is (code-phase.Phase.InSegment len at) = refl
 phase-is (code-phase.Phase.InReassembly at) = refl
 phase-is (code-phase.Phase.Stopped e) = ap code-phase.Phase.Stopped (caseOf-paper e)
 
-readerFrom : Reader → code-reader.Reader
+readerFrom : Reader → code-decoder.FrameDecoder
 readerFrom r =
     record {
       form = form-told .back (r .form);
@@ -46,7 +46,7 @@ readerFrom r =
       phase = phaseFrom (r .phase);
     }
 
-reader-is : (r : code-reader.Reader) → readerFrom (paperReader r) ≡ r
+reader-is : (r : code-decoder.FrameDecoder) → readerFrom (paperReader r) ≡ r
 unfolding readerFrom
 reader-is r =
     ap₂
@@ -85,26 +85,26 @@ answer-is (code-answer.Answer.Refused e) = ap code-answer.Answer.Refused (caseOf
 heardFrom : Outcome → Heard
 heardFrom o = record { answer = answerFrom (o .answer); taken = o .taken }
 
-heard-is : (h : Heard) (r : code-reader.Reader) (seg re : List ℕ) → heardFrom (paperHeard h r seg re) ≡ h
+heard-is : (h : Heard) (r : code-decoder.FrameDecoder) (seg re : List ℕ) → heardFrom (paperHeard h r seg re) ≡ h
 unfolding heardFrom
 heard-is h r seg re = ap (λ (a : code-answer.Answer). record { answer = a; taken = h .taken }) (answer-is (h .answer))
 
 -- ---- an answer with the reader and what the buffers then hold
 
 abbrev pub Lent : Type 0
-Lent = (code-reader.Reader × Heard) × (List ℕ × List ℕ)
+Lent = (code-decoder.FrameDecoder × Heard) × (List ℕ × List ℕ)
 
 lentFrom : Outcome → Lent
 lentFrom o = ((readerFrom (o .reader), heardFrom o), (o .segment, o .reassembly))
 
-lent-is : (h : Heard) (r : code-reader.Reader) (seg re : List ℕ) → _≡_ {A = Lent} (lentFrom (paperHeard h r seg re)) ((r, h), (seg, re))
+lent-is : (h : Heard) (r : code-decoder.FrameDecoder) (seg re : List ℕ) → _≡_ {A = Lent} (lentFrom (paperHeard h r seg re)) ((r, h), (seg, re))
 unfolding lentFrom
 lent-is h r seg re = ap₂ lent (reader-is r) (heard-is h r seg re)
   where
-    lent : code-reader.Reader → Heard → Lent
+    lent : code-decoder.FrameDecoder → Heard → Lent
     lent r h = ((r, h), (seg, re))
 
-pub lent-apart : (g h : Heard) (r s : code-reader.Reader) (seg re seg′ re′ : List ℕ) → paperHeard g r seg re ≡ paperHeard h s seg′ re′ → _≡_ {A = Lent} ((r, g), (seg, re)) ((s, h), (seg′, re′))
+pub lent-apart : (g h : Heard) (r s : code-decoder.FrameDecoder) (seg re seg′ re′ : List ℕ) → paperHeard g r seg re ≡ paperHeard h s seg′ re′ → _≡_ {A = Lent} ((r, g), (seg, re)) ((s, h), (seg′, re′))
 lent-apart g h r s seg re seg′ re′ e = sym (lent-is g r seg re) ∙ ap lentFrom e ∙ lent-is h s seg′ re′
 
 -- the step, and both buffers

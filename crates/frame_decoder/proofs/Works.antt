@@ -1,18 +1,20 @@
 -- The definition of a call, byte by byte, and the code, a run of bytes at a time: pushes that complete nothing are one. Assumes nothing.
 use Prim.Native.Nat.{ℕ, suc, _+_, _-_, _≤_, _<_, min}
 use mathlib.Core.Path.{_≡_, refl, sym, ap, ap₂, _∙_, subst, subst₂}
+use mathlib.Core.Bool.{Bool, true, false, cond}
 use mathlib.Core.List.{List, [], _∷_, _++_}
 use native.Mathlib.Nat.{add-zero, min-le-left, min-le-right}
 use native.Mathlib.Omega.{arith}
 use lib.ListN.{length, take, drop, length-drop, take-append-drop}
 use lib.Seq.{length-take-le, drop-drop, drop-length}
+use Rattle.refusal.specs.Refusal.{inadmissible}
 use Rattle.types.specs.Write.{put}
 use Rattle.types.proofs.Put.{put-none, put-put, length-put}
 use Rattle.segment.specs.Header.{Form, header}
 use Rattle.segment.proofs.Cases.{head-cut, header-is, payload-cut, payload-is}
-use Rattle.frame_decoder.specs.Reader.{Phase, inHeader, inRest, inSegment, inReassembly, stopped, Reader, inPhase, advanced, pushed, Answer, more, countsIn, countsOf}
+use Rattle.frame_decoder.specs.Reader.{Phase, inHeader, inRest, inSegment, inReassembly, stopped, Reader, inPhase, advanced, pushed, Answer, more, refused, countsIn, countsOf, admissible}
 use Rattle.frame_decoder.specs.Settle.{Due, due, waits, Settled, settled, headerDue, segmentDue, settleAt, settle}
-use Rattle.frame_decoder.specs.Call.{Outcome, outcome, stored, unlessDue, work}
+use Rattle.frame_decoder.specs.Call.{Outcome, outcome, stored, unlessDue, work, call}
 use Rattle.frame_decoder.specs.Private.Inside.{Admitted, wanted, Roomy, Onward}
 use Rattle.frame_decoder.proofs.Steps.{roomy, pushed-admitted}
 use Rattle.frame_decoder.proofs.Sound.{Sound, settle-sound}
@@ -48,6 +50,29 @@ module _ (taken : ℕ) (seg : List ℕ) where
     unfolding work ends goes-on
     work-settled [] e f = ap ends (e ∙ sym f)
     work-settled (b ∷ piece) e f = ap (goes-on b piece) (e ∙ sym f)
+
+-- ---- no more is taken than is there
+
+work-within : (piece : List ℕ) (taken : ℕ) (r : Reader) (seg re : List ℕ) → work taken r seg re piece .taken ≤ taken + length piece
+work-within [] taken r seg re = last (settle r seg re .says) refl
+  where
+    last : (d : Due) → settle r seg re ≡ settled d (settle r seg re .reassembly) → work taken r seg re [] .taken ≤ taken + 0
+    last (due answer x) e = subst (λ (o : Outcome). o .taken ≤ taken + 0) (sym (work-due taken seg r re [] e)) (omega arith)
+    last (waits x) e = subst (λ (o : Outcome). o .taken ≤ taken + 0) (sym (work-more taken seg r re e)) (omega arith)
+work-within (b ∷ piece) taken r seg re = next (settle r seg re .says) refl (work-within piece (suc taken))
+  where
+    next : (d : Due) → settle r seg re ≡ settled d (settle r seg re .reassembly) → ((x : Reader) (s t : List ℕ) → work (suc taken) x s t piece .taken ≤ suc taken + length piece)
+        → work taken r seg re (b ∷ piece) .taken ≤ taken + suc (length piece)
+    next (due answer x) e on = subst (λ (o : Outcome). o .taken ≤ taken + suc (length piece)) (sym (work-due taken seg r re (b ∷ piece) e)) (omega arith)
+    next (waits x) e on = subst (λ (o : Outcome). o .taken ≤ taken + suc (length piece)) (sym (work-push taken seg r re b piece e)) (omega (arith, on (pushed 1 x) (stored x seg (b ∷ [])) (settle r seg re .reassembly)))
+
+pub call-within : (r : Reader) (seg re piece : List ℕ) → call r seg re piece .taken ≤ length piece
+unfolding call
+call-within r seg re piece = by (admissible r (length seg) (length re))
+  where
+    by : (t : Bool) → cond t (work 0 r seg re piece) (outcome (refused inadmissible) 0 r seg re) .taken ≤ length piece
+    by true = omega (arith, work-within piece 0 r seg re)
+    by false = omega arith
 
 -- ---- a reader that waits
 

@@ -8,7 +8,7 @@ use Rattle.frame.specs.Paper.{paperEnvelope}
 use Rattle.frame_decoder.specs.Reader.{Phase, inHeader, inRest, inSegment, inReassembly, stopped, Reader, Buffer, segmentBuffer, reassemblyBuffer, Answer, envelopeAt, leftover, more, refused}
 use Rattle.frame_decoder.specs.Call.{Outcome, outcome}
 use Rattle.frame_decoder.specs.declared.Phase as code-phase
-use Rattle.frame_decoder.specs.declared.Reader as code-reader
+use Rattle.frame_decoder.specs.declared.FrameDecoder as code-decoder
 use Rattle.frame_decoder.specs.declared.Buffer as code-buffer
 use Rattle.frame_decoder.specs.declared.Answer as code-answer
 use Rattle.frame_decoder.specs.declared.Heard.{Heard}
@@ -21,7 +21,7 @@ paperPhase (code-phase.Phase.InSegment len at) = inSegment len at
 paperPhase (code-phase.Phase.InReassembly at) = inReassembly at
 paperPhase (code-phase.Phase.Stopped e) = stopped (paperRefusal e)
 
-abbrev pub paperReader : code-reader.Reader → Reader
+abbrev pub paperReader : code-decoder.FrameDecoder → Reader
 paperReader r =
     record {
       form = paperForm (r .form);
@@ -42,7 +42,7 @@ paperAnswer code-answer.Answer.More = more
 paperAnswer (code-answer.Answer.Refused e) = refused (paperRefusal e)
 
 -- what was heard, together with the reader and what the buffers then hold
-abbrev pub paperHeard : Heard → code-reader.Reader → List ℕ → List ℕ → Outcome
+abbrev pub paperHeard : Heard → code-decoder.FrameDecoder → List ℕ → List ℕ → Outcome
 paperHeard h r segment reassembly = outcome (paperAnswer (h .answer)) (h .taken) (paperReader r) segment reassembly
 
 abbrev pub paperStep : Step → List ℕ → List ℕ → Outcome

@@ -7,7 +7,7 @@ ghost use Rattle.segment.specs.Paper.{paperForm};
 ghost use Rattle.frame_decoder.specs.Reader.{countsOf, payloadFits, countsLie, admissible, heldIn};
 ghost use Rattle.frame_decoder.specs.Paper.{paperReader};
 use crate::Phase;
-use crate::Reader;
+use crate::FrameDecoder;
 use crate::in_range;
 use segment::Form;
 use segment::MAX_PAYLOAD;
@@ -24,7 +24,7 @@ fn payload_fits(form: Form, room: usize, len: usize) -> bool
 }
 
 // How long a payload its header told of.
-fn payload_len(m: Reader) -> usize
+fn payload_len(m: FrameDecoder) -> usize
     ensures { λ r. ⌜ r ≡ countsOf (paperReader m) .payload ⌝ }
 {
     let phase = m.phase;
@@ -41,7 +41,7 @@ fn payload_len(m: Reader) -> usize
     }
 }
 
-fn counts_lie(m: Reader) -> bool
+fn counts_lie(m: FrameDecoder) -> bool
     requires { ⌜ countsOf (paperReader m) .payload ≤ maxPayload ⌝ }
     ensures { λ r. ⌜ r ≡ countsLie (countsOf (paperReader m)) ⌝ }
 {
@@ -61,7 +61,7 @@ fn counts_lie(m: Reader) -> bool
 }
 
 // Where this is false, a call that is lent buffers of these lengths refuses with 1.
-pub(crate) fn is_admissible(m: Reader, a: usize, b: usize) -> bool
+pub(crate) fn is_admissible(m: FrameDecoder, a: usize, b: usize) -> bool
     ensures { λ r. ⌜ r ≡ admissible (paperReader m) a b ⌝ }
 {
     let form = m.form;
@@ -74,7 +74,7 @@ pub(crate) fn is_admissible(m: Reader, a: usize, b: usize) -> bool
     false
 }
 
-pub(crate) fn held_in(m: Reader) -> usize
+pub(crate) fn held_in(m: FrameDecoder) -> usize
     requires { ⌜ admissible (paperReader m) (m .«segment_len») (m .«reassembly_len») ≡ true ⌝ }
     ensures { λ r. ⌜ r ≡ heldIn (countsOf (paperReader m)) ⌝ }
 {

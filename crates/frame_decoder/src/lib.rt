@@ -58,7 +58,7 @@ pub enum Phase {
 }
 
 // The form, the lengths of the two buffers that it was made for, how many bytes are pending, and the phase. Plain data: a forged one has its answer too.
-pub struct Reader {
+pub struct FrameDecoder {
     pub form: Form,
     pub segment_len: usize,
     pub reassembly_len: usize,
@@ -87,7 +87,7 @@ pub struct Heard {
 }
 
 pub struct Step {
-    pub reader: Reader,
+    pub reader: FrameDecoder,
     pub heard: Heard,
 }
 
@@ -101,13 +101,13 @@ pub fn part<'a>(buffer: Buffer, segment: &'a [u8], reassembly: &'a [u8], place: 
     }
 }
 
-impl Reader {
+impl FrameDecoder {
     // Never refuses: each call tests the lengths.
-    pub fn new(form: Form, segment_len: usize, reassembly_len: usize) -> Reader
+    pub fn new(form: Form, segment_len: usize, reassembly_len: usize) -> FrameDecoder
         ensures { λ r. ⌜ paperReader r ≡ fresh (paperForm form) «segment_len» «reassembly_len» ⌝ }
     {
         let phase = Phase::Header { filled: 0 };
-        Reader {
+        FrameDecoder {
             form,
             segment_len,
             reassembly_len,
@@ -116,11 +116,11 @@ impl Reader {
         }
     }
 
-    pub(crate) fn in_phase(self, phase: Phase) -> Reader
+    pub(crate) fn in_phase(self, phase: Phase) -> FrameDecoder
         ensures { λ r. ⌜ paperReader r ≡ inPhase (paperReader self) (paperPhase phase) ⌝ }
     {
         let form = self.form;
-        Reader {
+        FrameDecoder {
             form,
             segment_len: self.segment_len,
             reassembly_len: self.reassembly_len,
@@ -129,14 +129,14 @@ impl Reader {
         }
     }
 
-    fn with_pending(mut self, pending: usize) -> Reader
+    fn with_pending(mut self, pending: usize) -> FrameDecoder
         ensures { λ r. ⌜ paperReader r ≡ keeping (paperReader self) pending (paperPhase (self .phase)) ⌝ }
     {
         self.pending = pending;
         self
     }
 
-    pub(crate) fn kept(self, pending: usize, phase: Phase) -> Reader
+    pub(crate) fn kept(self, pending: usize, phase: Phase) -> FrameDecoder
         ensures { λ r. ⌜ paperReader r ≡ keeping (paperReader self) pending (paperPhase phase) ⌝ }
     {
         let next = self.in_phase(phase);

@@ -14,7 +14,7 @@ ghost use Rattle.frame_decoder.specs.Private.Inside.{paperDue, Admitted}
 use crate::Answer;
 use crate::Buffer;
 use crate::Phase;
-use crate::Reader;
+use crate::FrameDecoder;
 use frame::Reading;
 use frame::read::read_envelope;
 use refusal::Refusal;
@@ -30,12 +30,12 @@ use types::inner::put_bytes;
 
 // An answer and the reader behind it, or a reader that waits for bytes.
 pub(crate) enum Due {
-    Answered(Answer, Reader),
-    Waits(Reader),
+    Answered(Answer, FrameDecoder),
+    Waits(FrameDecoder),
 }
 
 // Any refusal stops the reader.
-fn refuse(m: Reader, e: Refusal) -> Due
+fn refuse(m: FrameDecoder, e: Refusal) -> Due
     ensures { λ r. ⌜ paperDue r ≡ refusing (paperRefusal e) (paperReader m) ⌝ }
 {
     let reader = m.in_phase(Phase::Stopped(e));
@@ -43,7 +43,7 @@ fn refuse(m: Reader, e: Refusal) -> Due
 }
 
 // A header that is there and passed its checks: 4.
-fn passed(m: Reader, filled: usize, room: usize, header: Header) -> Due
+fn passed(m: FrameDecoder, filled: usize, room: usize, header: Header) -> Due
     ensures { λ r. ⌜ paperDue r ≡ headerDue (paperReader m) filled room (whole (paperHeader header)) ⌝ }
 {
     let form = m.form;
@@ -63,7 +63,7 @@ fn passed(m: Reader, filled: usize, room: usize, header: Header) -> Due
 }
 
 // So many bytes of a header are there: 2, 3, 4.
-fn header_due(m: Reader, segment: &[u8], filled: usize) -> Due
+fn header_due(m: FrameDecoder, segment: &[u8], filled: usize) -> Due
     requires { ⌜ filled ≤ length (now segment) ⌝ }
     ensures { λ r. ⌜ paperDue r ≡ headerDue (paperReader m) filled (length (now (segment .entry))) (headerAt (paperForm (m .form)) (take filled (now (segment .entry)))) ⌝ }
 {
@@ -76,7 +76,7 @@ fn header_due(m: Reader, segment: &[u8], filled: usize) -> Due
 }
 
 // A self-contained payload is read: what is left of it is dropped.
-fn left_over(m: Reader, n: usize) -> Due
+fn left_over(m: FrameDecoder, n: usize) -> Due
     ensures { λ r. ⌜ paperDue r ≡ leftoverDue (paperReader m) n ⌝ }
 {
     let reader = m.in_phase(Phase::Header { filled: 0 });
@@ -87,7 +87,7 @@ fn left_over(m: Reader, n: usize) -> Due
 }
 
 // The next envelope of a self-contained payload, where it stands in the middle of the segment buffer.
-fn from_segment(m: Reader, segment: &[u8], len: usize, at: usize) -> Due
+fn from_segment(m: FrameDecoder, segment: &[u8], len: usize, at: usize) -> Due
     requires { ⌜ (at ≤ len) × (headerLength (paperForm (m .form)) + len ≤ length (now segment)) ⌝ }
     ensures { λ r. ⌜ paperDue r ≡ readSegment (paperReader m) (now (segment .entry)) len at ⌝ }
 {
@@ -126,7 +126,7 @@ fn move_down(buffer: &mut [u8], at: usize, n: usize)
 }
 
 // The next envelope of the pending bytes; where there is none, those unread are moved to the front.
-fn from_pending(m: Reader, reassembly: &mut [u8], at: usize) -> Due
+fn from_pending(m: FrameDecoder, reassembly: &mut [u8], at: usize) -> Due
     requires { ⌜ (at ≤ m .pending) × (m .pending ≤ length (now reassembly)) ⌝ }
     ensures { λ r. ⌜ settled (paperDue r) (now (reassembly .exit)) ≡ readPending (paperReader m) (now (reassembly .entry)) at ⌝ }
 {
@@ -155,7 +155,7 @@ fn from_pending(m: Reader, reassembly: &mut [u8], at: usize) -> Due
 }
 
 // A segment that is not self-contained: 7, or its payload is appended, into the free tail of the reassembly buffer.
-fn append(m: Reader, payload: &[u8], reassembly: &mut [u8]) -> Due
+fn append(m: FrameDecoder, payload: &[u8], reassembly: &mut [u8]) -> Due
     requires { ⌜ m .pending ≤ length (now reassembly) ⌝ }
     ensures { λ r. ⌜ settled (paperDue r) (now (reassembly .exit)) ≡ readJoined (paperReader m) (now (reassembly .entry)) (now (payload .entry)) ⌝ }
 {
@@ -170,7 +170,7 @@ fn append(m: Reader, payload: &[u8], reassembly: &mut [u8]) -> Due
 }
 
 // A segment whose check holds: 6, or its payload is read where it stands; or it joins the pending bytes.
-fn received(m: Reader, segment: &[u8], reassembly: &mut [u8], len: usize, self_contained: bool) -> Due
+fn received(m: FrameDecoder, segment: &[u8], reassembly: &mut [u8], len: usize, self_contained: bool) -> Due
     requires { ⌜ (segmentLength (paperForm (m .form)) len ≤ length (now segment)) × (m .pending ≤ length (now reassembly)) ⌝ }
     ensures { λ r. ⌜ settled (paperDue r) (now (reassembly .exit)) ≡ received (paperReader m) (now (segment .entry)) (now (reassembly .entry)) len «self_contained» (part (now (segment .entry)) (headerLength (paperForm (m .form))) len) ⌝ }
 {
@@ -190,7 +190,7 @@ fn received(m: Reader, segment: &[u8], reassembly: &mut [u8], len: usize, self_c
 
 // So many bytes of a segment are there whose header has passed: 5, then 6 or 7.
 fn segment_due(
-    m: Reader,
+    m: FrameDecoder,
     segment: &[u8],
     reassembly: &mut [u8],
     filled: usize,
@@ -213,7 +213,7 @@ fn segment_due(
     }
 }
 
-pub(crate) fn settle(m: Reader, segment: &[u8], reassembly: &mut [u8]) -> Due
+pub(crate) fn settle(m: FrameDecoder, segment: &[u8], reassembly: &mut [u8]) -> Due
     requires { ⌜ Admitted (paperReader m) (length (now segment)) (length (now reassembly)) ⌝ }
     ensures { λ r. ⌜ settled (paperDue r) (now (reassembly .exit)) ≡ settle (paperReader m) (now (segment .entry)) (now (reassembly .entry)) ⌝ }
 {

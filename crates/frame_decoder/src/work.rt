@@ -10,7 +10,7 @@ ghost use Rattle.frame_decoder.specs.Private.Inside.{Admitted, wanted, R
 use crate::Answer;
 use crate::Heard;
 use crate::Phase;
-use crate::Reader;
+use crate::FrameDecoder;
 use crate::Step;
 use crate::settle::Due;
 use crate::settle::settle;
@@ -18,7 +18,7 @@ use segment::TRAILER_LEN;
 use segment::header_len;
 use types::inner::put_bytes;
 
-pub(crate) fn step(reader: Reader, answer: Answer, taken: usize) -> Step
+pub(crate) fn step(reader: FrameDecoder, answer: Answer, taken: usize) -> Step
     ensures { λ r. ⌜ r ≡ stepOf reader answer taken ⌝ }
 {
     let heard = Heard { answer, taken };
@@ -42,7 +42,7 @@ fn fill_up(segment: &mut [u8], filled: usize, end: usize, bytes: &[u8]) -> usize
 }
 
 // With how many bytes a header or a segment is judged next.
-fn goal(m: Reader) -> usize
+fn goal(m: FrameDecoder) -> usize
     requires { ⌜ countsOf (paperReader m) .goal ≤ maxSegment ⌝ }
     ensures { λ r. ⌜ r ≡ countsOf (paperReader m) .goal ⌝ }
 {
@@ -62,7 +62,7 @@ fn goal(m: Reader) -> usize
 }
 
 // So many more are there.
-fn pushed(m: Reader, k: usize) -> Reader
+fn pushed(m: FrameDecoder, k: usize) -> FrameDecoder
     requires { ⌜ (k ≤ wanted (countsOf (paperReader m))) × (countsOf (paperReader m) .goal ≤ maxSegment) ⌝ }
     ensures { λ r. ⌜ paperReader r ≡ pushed k (paperReader m) ⌝ }
 {
@@ -88,12 +88,12 @@ fn pushed(m: Reader, k: usize) -> Reader
 }
 
 struct Filled {
-    reader: Reader,
+    reader: FrameDecoder,
     took: usize,
 }
 
 // Takes what is still to come of the header or the segment, as far as the bytes go.
-fn fill(m: Reader, segment: &mut [u8], bytes: &[u8]) -> Filled
+fn fill(m: FrameDecoder, segment: &mut [u8], bytes: &[u8]) -> Filled
     requires { ⌜ Roomy (length (now segment)) (countsOf (paperReader m)) × (length (now segment) ≤ maxSegment) ⌝ }
     ensures { λ r. ⌜ FilledIs r (paperReader m) (now (segment .entry)) (now (segment .exit)) (now (bytes .entry)) ⌝ }
 {
@@ -106,12 +106,12 @@ fn fill(m: Reader, segment: &mut [u8], bytes: &[u8]) -> Filled
 // What one turn leaves: the call's step, or a reader to go on with and how many bytes were taken so far.
 enum Turn {
     Done(Step),
-    On(Reader, usize),
+    On(FrameDecoder, usize),
 }
 
 // Settles, and where nothing is due takes what it can of the rest of the piece.
 fn take_turn(
-    m: Reader,
+    m: FrameDecoder,
     taken: usize,
     segment: &mut [u8],
     reassembly: &mut [u8],
@@ -135,7 +135,7 @@ fn take_turn(
 }
 
 // Each turn but the last takes a byte at least.
-pub(crate) fn work(reader: Reader, segment: &mut [u8], reassembly: &mut [u8], piece: &[u8]) -> Step
+pub(crate) fn work(reader: FrameDecoder, segment: &mut [u8], reassembly: &mut [u8], piece: &[u8]) -> Step
     requires { ⌜ Admitted (paperReader reader) (length (now segment)) (length (now reassembly)) ⌝ }
     ensures { λ r. ⌜ paperStep r (now (segment .exit)) (now (reassembly .exit)) ≡ work 0 (paperReader reader) (now (segment .entry)) (now (reassembly .entry)) (now (piece .entry)) ⌝ }
 {

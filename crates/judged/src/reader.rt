@@ -8,7 +8,7 @@ use frame::read;
 use frame_decoder::Answer;
 use frame_decoder::Buffer;
 use frame_decoder::Phase;
-use frame_decoder::Reader;
+use frame_decoder::FrameDecoder;
 use frame_decoder::Step;
 use refusal::Numbered;
 use refusal::Refusal;
@@ -146,12 +146,12 @@ pub extern "C" fn judged_stream_part<'a>(
 // State: form, the two lengths, pending, then the phase: its name and up to three numbers. Fewer than eight words are no state, nor are those in which
 // one stands for no form, for no phase, for no refusal, or neither for yes nor for no.
 enum Stated {
-    Reader(Reader),
+    Reader(FrameDecoder),
     Nothing,
 }
 
 fn in_phase(state: &[usize], phase: Phase) -> Stated {
-    Stated::Reader(Reader {
+    Stated::Reader(FrameDecoder {
         form: words::form(words::get(state, 0)),
         segment_len: words::get(state, 1),
         reassembly_len: words::get(state, 2),
@@ -210,7 +210,7 @@ fn put_phase(state: &mut [usize], phase: Phase) {
     }
 }
 
-fn put_state(state: &mut [usize], reader: Reader) {
+fn put_state(state: &mut [usize], reader: FrameDecoder) {
     let form = reader.form;
     let phase = reader.phase;
     words::put4(

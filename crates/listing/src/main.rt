@@ -3,7 +3,7 @@ ghost use Prim.Native.Nat.{_≤_};
 use cases::say;
 use frame::Envelope;
 use frame_decoder::Answer;
-use frame_decoder::Reader;
+use frame_decoder::FrameDecoder;
 use libc::STDIN_FILENO;
 use segment::Form;
 
@@ -48,7 +48,7 @@ fn say_answer(answer: Answer) -> Next {
 
 // The stream goes on, or all of its lines are written.
 enum Stream {
-    On(Reader),
+    On(FrameDecoder),
     Over,
 }
 
@@ -64,7 +64,7 @@ fn rest_start(start: usize, taken: usize, len: usize) -> usize
 }
 
 // Calls with the rest of a piece until more or a refusal comes. By 6.3 that is long before the turns are counted down.
-fn use_up(reader: Reader, segment: &mut [u8], reassembly: &mut [u8], piece: &[u8]) -> Stream {
+fn use_up(reader: FrameDecoder, segment: &mut [u8], reassembly: &mut [u8], piece: &[u8]) -> Stream {
     let mut current = reader;
     let mut start: usize = 0;
     let mut turns = u64::MAX;
@@ -89,7 +89,7 @@ fn use_up(reader: Reader, segment: &mut [u8], reassembly: &mut [u8], piece: &[u8
     Stream::On(current)
 }
 
-fn read_piece(reader: Reader, segment: &mut [u8], reassembly: &mut [u8]) -> Stream {
+fn read_piece(reader: FrameDecoder, segment: &mut [u8], reassembly: &mut [u8]) -> Stream {
     let mut buffer = [0u8; 4096];
     let got = libc::read(STDIN_FILENO, &mut buffer);
     if got <= 0 {
@@ -102,7 +102,7 @@ fn read_piece(reader: Reader, segment: &mut [u8], reassembly: &mut [u8]) -> Stre
 }
 
 // A proved loop has to end, and nothing says that an input does: the turns are counted down from a number that no run uses up.
-fn read_all(reader: Reader, segment: &mut [u8], reassembly: &mut [u8]) {
+fn read_all(reader: FrameDecoder, segment: &mut [u8], reassembly: &mut [u8]) {
     let mut current = reader;
     let mut turns = u64::MAX;
     while 0 < turns {
@@ -118,6 +118,6 @@ fn main() {
     let mut segment = [0u8; BUFFER_LEN];
     let mut reassembly = [0u8; BUFFER_LEN];
     say::text(b"form short\n");
-    let reader = Reader::new(Form::Short, BUFFER_LEN, BUFFER_LEN);
+    let reader = FrameDecoder::new(Form::Short, BUFFER_LEN, BUFFER_LEN);
     read_all(reader, &mut segment, &mut reassembly);
 }

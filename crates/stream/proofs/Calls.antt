@@ -24,7 +24,7 @@ use Rattle.frame_decoder.specs.Private.Inside.{Lie, Admitted, wanted, Roomy}
 use Rattle.frame_decoder.proofs.Steps.{between-true, admitted, roomy, pushed-admitted}
 use Rattle.frame_decoder.proofs.Sound.{Sound, settle-sound}
 use Rattle.frame_decoder.proofs.Works.{stored-length, work-due, work-more, work-push}
-use Rattle.stream.specs.Meaning.{Lent, Said, segmentIn, judged, meaningFrom}
+use Rattle.stream.specs.Meaning.{Lent, Said, segmentIn, byBeginning, meaningFrom}
 use Rattle.stream.specs.Caller.{State, state, replyOf, undelivered}
 use Rattle.stream.specs.Collect.{saidLength}
 use Rattle.stream.specs.Private.Inside.{lentOf, judging, restAt, rest, Agrees, Untouched, Ready, Wants, ahead}
@@ -77,7 +77,7 @@ one-more : (z : Lent) (pending s : List ℕ) (taken b : ℕ) (stream : List ℕ)
     → judging z pending s taken (b ∷ stream) ≡ judging z pending (s ++ b ∷ []) (suc taken) stream
 unfolding meaningFrom
 one-more z pending s taken b stream e =
-    ap (λ (f : Front Refusal Segment). judged z f pending s taken (λ pending′ s′. meaningFrom z taken pending′ s′ (b ∷ stream))) e
+    ap (λ (f : Front Refusal Segment). byBeginning z f pending s taken (λ pending′ s′. meaningFrom z taken pending′ s′ (b ∷ stream))) e
 
 -- in phase q it is taken, and stands behind those that are there
 pub record Pushes (r : Reader) (q : Phase) (seg re : List ℕ) (b : ℕ) : Type 0 where
@@ -149,7 +149,6 @@ Told s piece count (refusesWith why) t = Stopped s piece count why t
 pub record Called (s : State) (piece : List ℕ) (before : ℕ) (o : Outcome) : Type 0 where
   pub count : ℕ
   pub is : o .taken ≡ before + count
-  pub within : count ≤ length piece
   pub ready : Ready (state (o .reader) (o .segment) (o .reassembly))
   pub told : Told s piece count (replyOf (o .answer) (o .segment) (o .reassembly)) (state (o .reader) (o .segment) (o .reassembly))
 
@@ -191,7 +190,6 @@ module _ (r : Reader) (seg re : List ℕ) (t : Ready (state r seg re)) where
       record {
         count = 0;
         is = sym (add-zero before);
-        within = omega arith;
         ready = ready-settled (lends-at-once (replyOf answer seg re′) x re′ d) ok l;
         told = told-at-once piece (replyOf answer seg re′) x re′ d;
       }
@@ -203,7 +201,6 @@ module _ (r : Reader) (seg re : List ℕ) (t : Ready (state r seg re)) where
       record {
         count = 0;
         is = sym (add-zero before);
-        within = omega arith;
         ready = ready-settled (d .lends) ok l;
         told = record {
           all = refl;
@@ -273,7 +270,6 @@ module _ (r : Reader) (seg re : List ℕ) (t : Ready (state r seg re)) where
         record {
           count = suc (t .count);
           is = t .is ∙ later before (t .count);
-          within = omega (arith, t .within);
           ready = t .ready;
           told = told-later (t .count) (replyOf (o .answer) (o .segment) (o .reassembly)) (state (o .reader) (o .segment) (o .reassembly)) (t .told);
         }

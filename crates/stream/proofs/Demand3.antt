@@ -66,7 +66,7 @@ collected-legal f seg re stream envelopes marks h answers legal s =
     let same = legal-heard f seg re legal s in
     (h .tells ∙ ap (λ (m : Meaning). collected m (blank envelopes marks)) same, h .ends ∙ ap endOf same ∙ end-saying answers (holding (heldAs [] [])))
 
--- The bytes held are as many as `Reader::held` says.
+-- The bytes held are as many as `FrameDecoder::held` says.
 pub held-bytes : (s : State) → Ready s → length (holds s .segment) + length (holds s .pending) ≡ held (s .reader)
 unfolding held
 held-bytes s t =

@@ -24,7 +24,8 @@ use Rattle.frame_decoder.specs.Reader.{Phase, inHeader, inRest, inSegment, inRe
 use Rattle.frame_decoder.specs.Call.{Outcome, outcome, call}
 use Rattle.frame_decoder.specs.Private.Inside.{wanted, Roomy}
 use Rattle.frame_decoder.proofs.Steps.{between-true, roomy}
-use Rattle.stream.specs.Meaning.{lent, Said, Held, held, Meaning, segmentIn, judged, meaningFrom, meaning}
+use Rattle.frame_decoder.proofs.Works.{call-within}
+use Rattle.stream.specs.Meaning.{lent, Said, Held, held, Meaning, segmentIn, byBeginning, meaningFrom, meaning}
 use Rattle.stream.specs.Caller.{State, state, replyOf, stepOf, reads, holdsBy, holds, start, HearsOf, heardOf, Asked}
 use Rattle.stream.specs.Private.Inside.{lentOf, judging, restAt, rest, Agrees, Untouched, Ready, Wants, ahead}
 use Rattle.stream.proofs.Heads.{in-header, roomy-header, nothing-seen}
@@ -37,7 +38,7 @@ use Rattle.stream.proofs.Longer.{asksFor, call-longer, call-joined}
 module _ (r : Reader) (seg re : List ℕ) (t : Ready (state r seg re)) (taken : ℕ) where
   quiet : (pending s : List ℕ) → segmentIn (lentOf r) s ≡ incomplete → judging (lentOf r) pending s taken [] ≡ holding (held s pending)
   unfolding meaningFrom
-  quiet pending s e = ap (λ (f : Front Refusal Segment). judged (lentOf r) f pending s taken (λ pending′ s′. meaningFrom (lentOf r) taken pending′ s′ [])) e
+  quiet pending s e = ap (λ (f : Front Refusal Segment). byBeginning (lentOf r) f pending s taken (λ pending′ s′. meaningFrom (lentOf r) taken pending′ s′ [])) e
 
   -- no pending byte was handed on
   all-pending : take (r .pending) re ≡ part re 0 (r .pending - 0)
@@ -90,7 +91,7 @@ module _ (s : State) (piece : List ℕ) (g : Ready s) where
       let o : Outcome = call r seg re piece in
       let is : o .taken ≡ c .count = c .is ∙ zero-add (c .count) in
       record {
-        within = omega (arith, c .within);
+        within = call-within r seg re piece;
         good = c .ready;
         does = does (o .answer) refl (c .ready) (subst (λ (k : ℕ). Told s piece k (replyOf (o .answer) (o .segment) (o .reassembly)) (state (o .reader) (o .segment) (o .reassembly))) (sym is) (c .told));
       }
@@ -148,7 +149,7 @@ module _ (f : Form) (seg re : List ℕ) where
     -- what is to come from it is what the stream means
     pub fresh-rest : (stream : List ℕ) → rest (start f seg re) 0 stream ≡ heardOf f (length seg) (length re) stream
     fresh-rest stream =
-        ap (λ (x : Front Refusal Segment). judged (lent f (length seg) (length re)) x [] [] 0 (λ pending′ s′. meaningFrom (lent f (length seg) (length re)) 0 pending′ s′ stream)) (nothing-seen (lent f (length seg) (length re)))
+        ap (λ (x : Front Refusal Segment). byBeginning (lent f (length seg) (length re)) x [] [] 0 (λ pending′ s′. meaningFrom (lent f (length seg) (length re)) 0 pending′ s′ stream)) (nothing-seen (lent f (length seg) (length re)))
         ∙ sym (heard-all stream)
 
   module _ (range : inRange (length seg) (length re) ≡ false) where

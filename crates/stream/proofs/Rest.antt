@@ -28,7 +28,7 @@ use Rattle.frame_decoder.specs.Reader.{Phase, inHeader, inRest, inSegment, inRe
 use Rattle.frame_decoder.specs.Settle.{Due, due, waits, Settled, settled, refusing, headerDue, leftoverDue, fromSegment, readSegment, movedDown, fromPending, readPending, readAlone, readJoined, received, segmentDue, settleAt, settle}
 use Rattle.frame_decoder.specs.Private.Inside.{Lie, Admitted}
 use Rattle.frame_decoder.proofs.Parts.{part-taken}
-use Rattle.stream.specs.Meaning.{Lent, lent, Said, envelopeOf, leftoverOf, Meaning, behindHeader, segmentIn, envelopesIn, dropping, bySegment, judged, meaningFrom}
+use Rattle.stream.specs.Meaning.{Lent, lent, Said, envelopeOf, leftoverOf, Meaning, behindHeader, segmentIn, envelopesIn, dropping, bySegment, byBeginning, meaningFrom}
 use Rattle.stream.specs.Caller.{state, replyOf, undelivered}
 use Rattle.stream.specs.Collect.{saidLength}
 use Rattle.stream.specs.Private.Inside.{lentOf, restAt, rest, Agrees}
@@ -83,7 +83,7 @@ module _ (r x : Reader) (q p : Phase) (seg re re₁ : List ℕ) (l : lentOf x �
 -- before a segment's first byte
 begins : (z : Lent) (pending : ℕ) (seg re : List ℕ) (taken : ℕ) (stream : List ℕ) → restAt z pending (inHeader 0) seg re taken stream ≡ meaningFrom z taken (take pending re) [] stream
 begins z pending seg re taken stream =
-    ap (λ (f : Front Refusal Segment). judged z f (take pending re) [] taken (λ pending′ s′. meaningFrom z taken pending′ s′ stream)) (nothing-seen z)
+    ap (λ (f : Front Refusal Segment). byBeginning z f (take pending re) [] taken (λ pending′ s′. meaningFrom z taken pending′ s′ stream)) (nothing-seen z)
 
 module _ (r : Reader) (seg re : List ℕ) where
   abbrev z : Lent
@@ -214,9 +214,9 @@ module _ (r : Reader) (seg re : List ℕ) (n : ℕ) (q : r .phase ≡ inHeader n
   -- what is to come does not depend on whether the header was judged already
   judged-by : {f : Front Refusal Header} → headerAt (r .form) (take n seg) ≡ f → (taken : ℕ) (stream : List ℕ)
       → restAt (lentOf r) (r .pending) (inHeader n) seg re taken stream
-      ≡ judged (lentOf r) (ifWhole f (behindHeader (lentOf r) (take n seg))) (take (r .pending) re) (take n seg) taken (λ pending′ s′. meaningFrom (lentOf r) taken pending′ s′ stream)
+      ≡ byBeginning (lentOf r) (ifWhole f (behindHeader (lentOf r) (take n seg))) (take (r .pending) re) (take n seg) taken (λ pending′ s′. meaningFrom (lentOf r) taken pending′ s′ stream)
   judged-by e taken stream =
-      ap (λ (f : Front Refusal Segment). judged (lentOf r) f (take (r .pending) re) (take n seg) taken (λ pending′ s′. meaningFrom (lentOf r) taken pending′ s′ stream)) (by-header (lentOf r) (take n seg) e)
+      ap (λ (f : Front Refusal Segment). byBeginning (lentOf r) f (take (r .pending) re) (take n seg) taken (λ pending′ s′. meaningFrom (lentOf r) taken pending′ s′ stream)) (by-header (lentOf r) (take n seg) e)
 
   tells-passed : (h : Header) → headerAt (r .form) (take n seg) ≡ whole h → headerLength (r .form) ≤ n → (t : Bool) → leb (segmentLength (r .form) (h .payload)) (length seg) ≡ t
       → Tells r (inHeader n) seg re (cond t (waits (headerPassed r n h)) (refusing segmentTooLong r)) re
@@ -233,7 +233,7 @@ module _ (r : Reader) (seg re : List ℕ) (n : ℕ) (q : r .phase ≡ inHeader n
         stays = refl;
         same =
             λ a taken stream. judged-by e taken stream
-            ∙ ap (λ (b : Bool). judged (lentOf r) (cond b (payloadAt (r .form) (take n seg) h) (refuses segmentTooLong)) (take (r .pending) re) (take n seg) taken (λ pending′ s′. meaningFrom (lentOf r) taken pending′ s′ stream))
+            ∙ ap (λ (b : Bool). byBeginning (lentOf r) (cond b (payloadAt (r .form) (take n seg) h) (refuses segmentTooLong)) (take (r .pending) re) (take n seg) taken (λ pending′ s′. meaningFrom (lentOf r) taken pending′ s′ stream))
             (ap (leb (segmentLength (r .form) (h .payload))) (sym cap) ∙ t);
       }
 
@@ -267,9 +267,9 @@ module _ (r : Reader) (seg re : List ℕ) (n len : ℕ) (self : Bool) (q : r .ph
 
   -- by what its bytes are behind the header
   judged-so : {f : Front Refusal Segment} → payloadAt (r .form) s (header len 0 self) ≡ f → Agrees (r .form) (inRest n len self) seg → (taken : ℕ) (stream : List ℕ)
-      → restAt (lentOf r) (r .pending) (inRest n len self) seg re taken stream ≡ judged (lentOf r) f (take (r .pending) re) s taken (goes-on taken stream)
+      → restAt (lentOf r) (r .pending) (inRest n len self) seg re taken stream ≡ byBeginning (lentOf r) f (take (r .pending) re) s taken (goes-on taken stream)
   judged-so e a taken stream =
-      ap (λ (f : Front Refusal Segment). judged (lentOf r) f (take (r .pending) re) s taken (goes-on taken stream))
+      ap (λ (f : Front Refusal Segment). byBeginning (lentOf r) f (take (r .pending) re) s taken (goes-on taken stream))
       (roomy-header (lentOf r) s (header len 0 self) (a .1) (omega arith) ∙ e)
 
   pending-length : length (take (r .pending) re) ≡ r .pending

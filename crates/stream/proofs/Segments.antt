@@ -17,7 +17,7 @@ use Rattle.segment.specs.Header.{Form, Header, headerLength}
 use Rattle.segment.specs.Segment.{Segment, segmentLength, headerAt, payloadAt}
 use Rattle.segment.proofs.Cases.{fieldsAt, Headers, head-cut, head-differs, head-compressed, head-good, header-case, Payloads, payload-cut, payload-differs, payload-good, payload-is, payload-case}
 use Rattle.segment.proofs.HeaderLaid.{head-least}
-use Rattle.stream.specs.Meaning.{Lent, Meaning, behindHeader, segmentIn, judged, meaningFrom}
+use Rattle.stream.specs.Meaning.{Lent, Meaning, behindHeader, segmentIn, byBeginning, meaningFrom}
 use Rattle.stream.specs.Segments.{lastOf, judgedAt, byFirst, segmentwise}
 use Rattle.stream.proofs.Heads.{header-behind, payload-behind, in-header, by-header, roomy-header}
 
@@ -120,13 +120,13 @@ module _ (z : Lent) where
       let a : s₁ ++ x ≡ s₀ ++ b ∷ x = append-assoc s₀ (b ∷ []) x in
       let l : length s₁ ≡ length s₀ + 1 = length-append s₀ (b ∷ []) in
       let n : suc taken + length x ≡ taken + suc (length x) = omega arith in
-      ap (λ (f : Front Refusal Segment). judged z f pending s₁ (suc taken) (λ pending′ s′. meaningFrom z (suc taken) pending′ s′ (x ++ stream))) (u s₁ x a (omega arith))
+      ap (λ (f : Front Refusal Segment). byBeginning z f pending s₁ (suc taken) (λ pending′ s′. meaningFrom z (suc taken) pending′ s′ (x ++ stream))) (u s₁ x a (omega arith))
       ∙ at-hand x s₁ (suc taken) pending stream (λ y y′ q h. u y y′ (q ∙ a) (omega arith))
       ∙ ap₂ (λ (k : ℕ) (s : List ℕ). meaningFrom z k pending s stream) n a
 
   -- and with its last byte it is judged
   last-byte : (taken : ℕ) (pending s₀ : List ℕ) (b : ℕ) (stream : List ℕ)
-      → meaningFrom z taken pending s₀ (b ∷ stream) ≡ judged z (segmentIn z (s₀ ++ b ∷ [])) pending (s₀ ++ b ∷ []) (suc taken) (λ pending′ s′. meaningFrom z (suc taken) pending′ s′ stream)
+      → meaningFrom z taken pending s₀ (b ∷ stream) ≡ byBeginning z (segmentIn z (s₀ ++ b ∷ [])) pending (s₀ ++ b ∷ []) (suc taken) (λ pending′ s′. meaningFrom z (suc taken) pending′ s′ stream)
   unfolding meaningFrom
   last-byte taken pending s₀ b stream = refl
 
@@ -138,7 +138,7 @@ module _ (z : Lent) where
 
   module _ (taken : ℕ) (pending s : List ℕ) where
     last-judged : (init : List ℕ) (b : ℕ) (stream : List ℕ) → (init ++ b ∷ []) ++ stream ≡ s → length (init ++ b ∷ []) ≡ judgedAt z s
-        → meaningFrom z taken pending [] s ≡ judged z (segmentIn z s) pending (init ++ b ∷ []) (taken + judgedAt z s) (λ pending′ s′. meaningFrom z (taken + judgedAt z s) pending′ s′ stream)
+        → meaningFrom z taken pending [] s ≡ byBeginning z (segmentIn z s) pending (init ++ b ∷ []) (taken + judgedAt z s) (λ pending′ s′. meaningFrom z (taken + judgedAt z s) pending′ s′ stream)
     last-judged init b stream q n =
         let x : List ℕ = init ++ b ∷ [] in
         let l : length x ≡ length init + 1 = length-append init (b ∷ []) in
@@ -148,14 +148,14 @@ module _ (z : Lent) where
         (λ y y′ e h. unfinished z s y (y′ ++ (b ∷ stream)) (sym (append-assoc y y′ (b ∷ stream)) ∙ ap (λ (i : List ℕ). i ++ (b ∷ stream)) e ∙ sym (append-assoc init (b ∷ []) stream) ∙ q)
         (omega (arith, length-append y y′, ap length e)))
         ∙ last-byte (taken + length init) pending init b stream
-        ∙ ap₂ (λ (f : Front Refusal Segment) (k : ℕ). judged z f pending x k (λ pending′ s′. meaningFrom z k pending′ s′ stream)) (judged-same z s x stream q n) t
+        ∙ ap₂ (λ (f : Front Refusal Segment) (k : ℕ). byBeginning z f pending x k (λ pending′ s′. meaningFrom z k pending′ s′ stream)) (judged-same z s x stream q n) t
 
     -- a segment that is there is refused or whole
     ends : (x : List ℕ) → judgedAt z s ≤ length s → (f : Front Refusal Segment) → segmentIn z s ≡ f
-        → judged z (segmentIn z s) pending x (taken + judgedAt z s) (λ pending′ s′. meaningFrom z (taken + judgedAt z s) pending′ s′ (drop (judgedAt z s) s)) ≡ byFirst z f taken pending s (judgedAt z s)
+        → byBeginning z (segmentIn z s) pending x (taken + judgedAt z s) (λ pending′ s′. meaningFrom z (taken + judgedAt z s) pending′ s′ (drop (judgedAt z s) s)) ≡ byFirst z f taken pending s (judgedAt z s)
     ends x h incomplete e = absurd (finished z s h e)
-    ends x h (refuses why) e = ap (λ (g : Front Refusal Segment). judged z g pending x (taken + judgedAt z s) (λ pending′ s′. meaningFrom z (taken + judgedAt z s) pending′ s′ (drop (judgedAt z s) s))) e
-    ends x h (whole g) e = ap (λ (g : Front Refusal Segment). judged z g pending x (taken + judgedAt z s) (λ pending′ s′. meaningFrom z (taken + judgedAt z s) pending′ s′ (drop (judgedAt z s) s))) e
+    ends x h (refuses why) e = ap (λ (g : Front Refusal Segment). byBeginning z g pending x (taken + judgedAt z s) (λ pending′ s′. meaningFrom z (taken + judgedAt z s) pending′ s′ (drop (judgedAt z s) s))) e
+    ends x h (whole g) e = ap (λ (g : Front Refusal Segment). byBeginning z g pending x (taken + judgedAt z s) (λ pending′ s′. meaningFrom z (taken + judgedAt z s) pending′ s′ (drop (judgedAt z s) s))) e
 
     there : judgedAt z s ≤ length s → (f : Front Refusal Segment) → segmentIn z s ≡ f → meaningFrom z taken pending [] s ≡ byFirst z f taken pending s (judgedAt z s)
     there h f e =

@@ -85,16 +85,16 @@ bySegment z false payload pending taken goes-on =
     (refusedAfter reassemblyTooShort taken)
 
 -- by what the first bytes of a segment are; the rest goes on with what is pending, and with the first bytes of the segment at hand
-abbrev pub judged : Lent → Front Refusal Segment → List ℕ → List ℕ → ℕ → (List ℕ → List ℕ → Meaning) → Meaning
-judged z incomplete pending s taken goes-on = goes-on pending s
-judged z (refuses why) pending s taken goes-on = refusedAfter why taken
-judged z (whole g) pending s taken goes-on = bySegment z (g .self) (g .payload) pending taken (λ unread. goes-on unread [])
+abbrev pub byBeginning : Lent → Front Refusal Segment → List ℕ → List ℕ → ℕ → (List ℕ → List ℕ → Meaning) → Meaning
+byBeginning z incomplete pending s taken goes-on = goes-on pending s
+byBeginning z (refuses why) pending s taken goes-on = refusedAfter why taken
+byBeginning z (whole g) pending s taken goes-on = bySegment z (g .self) (g .payload) pending taken (λ unread. goes-on unread [])
 
 -- with so many bytes taken, some pending and some of a segment at hand: what the bytes to come mean
 unfoldable pub meaningFrom : Lent → ℕ → List ℕ → List ℕ → List ℕ → Meaning
 meaningFrom z taken pending s [] = holding (held s pending)
 meaningFrom z taken pending s (b ∷ stream) =
-    judged z (segmentIn z (s ++ b ∷ [])) pending (s ++ b ∷ []) (suc taken) (λ pending′ s′. meaningFrom z (suc taken) pending′ s′ stream)
+    byBeginning z (segmentIn z (s ++ b ∷ [])) pending (s ++ b ∷ []) (suc taken) (λ pending′ s′. meaningFrom z (suc taken) pending′ s′ stream)
 
 abbrev pub meaning : Lent → List ℕ → Meaning
 meaning z stream = meaningFrom z 0 [] [] stream

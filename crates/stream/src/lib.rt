@@ -12,7 +12,7 @@ ghost use Rattle.stream.specs.Private.Inside.{Going};
 ghost use Rattle.stream.specs.declared.End.{End};
 ghost use Rattle.stream.specs.Private.Turn.{wayOf, AllHeard, TurnIs, UsedIs};
 use frame_decoder::Answer;
-use frame_decoder::Reader;
+use frame_decoder::FrameDecoder;
 use frame_decoder::in_range;
 use frame_decoder::part;
 use refusal::Refusal;
@@ -70,7 +70,7 @@ fn note(notes: Notes, envelopes: &mut [u8], marks: &mut [usize], bytes: &[u8], m
 
 // A caller on its way: the reader, how many bytes of the stream were taken, and what was written down.
 struct Progress {
-    reader: Reader,
+    reader: FrameDecoder,
     taken: usize,
     notes: Notes,
 }
@@ -264,7 +264,7 @@ pub fn collect(
         complete: true,
     };
     if in_range(segment.len(), reassembly.len()) {
-        let reader = Reader::new(form, segment.len(), reassembly.len());
+        let reader = FrameDecoder::new(form, segment.len(), reassembly.len());
         let start = Progress {
             reader,
             taken: 0,

@@ -10,7 +10,7 @@ use Rattle.frame_decoder.specs.Reader.{Reader, pushed, Counts, countsOf,
 use Rattle.frame_decoder.specs.Settle as settling
 use Rattle.frame_decoder.specs.Call.{stored, work}
 use Rattle.frame_decoder.specs.Paper.{paperReader, paperAnswer, paperStep}
-use Rattle.frame_decoder.specs.declared.Reader as code-reader
+use Rattle.frame_decoder.specs.declared.FrameDecoder as code-decoder
 use Rattle.frame_decoder.specs.declared.Answer as code-answer
 use Rattle.frame_decoder.specs.declared.Step.{Step}
 use Rattle.frame_decoder.specs.declared.settle.Due.{Due}
@@ -21,7 +21,7 @@ abbrev pub paperDue : Due → settling.Due
 paperDue (Due.Answered answer r) = settling.due (paperAnswer answer) (paperReader r)
 paperDue (Due.Waits r) = settling.waits (paperReader r)
 
-abbrev pub stepOf : code-reader.Reader → code-answer.Answer → ℕ → Step
+abbrev pub stepOf : code-decoder.FrameDecoder → code-answer.Answer → ℕ → Step
 stepOf r answer taken = record { reader = r; heard = record { answer = answer; taken = taken } }
 
 -- ---- counts that lie in what they count, over a segment buffer of a bytes

@@ -12,7 +12,7 @@ use Rattle.segment.specs.Header.{Form, header, headerLength}
 use Rattle.segment.specs.Segment.{headerAt}
 use Rattle.frame_decoder.specs.Reader.{Phase, inHeader, inRest, inSegment, inReassembly, stopped, Reader, segmentBuffer, reassemblyBuffer, countsOf, minReassembly}
 use Rattle.frame_decoder.specs.Private.Inside.{Admitted, wanted}
-use Rattle.stream.specs.Meaning.{Lent, lent, Said, Meaning, segmentIn, envelopesIn, dropping, judged, meaningFrom}
+use Rattle.stream.specs.Meaning.{Lent, lent, Said, Meaning, segmentIn, envelopesIn, dropping, byBeginning, meaningFrom}
 use Rattle.stream.specs.Caller.{State, state, reads, holds, undelivered}
 use Rattle.stream.specs.Collect.{bytesOf, markOf, Tape, noted, Ending, refusedEnd, endOf}
 
@@ -23,7 +23,7 @@ lentOf r = lent (r .form) (r .segment) (r .reassembly)
 
 -- bytes of a segment are at hand, and are still to be judged
 abbrev pub judging : Lent → List ℕ → List ℕ → ℕ → List ℕ → Meaning
-judging z pending s taken stream = judged z (segmentIn z s) pending s taken (λ pending′ s′. meaningFrom z taken pending′ s′ stream)
+judging z pending s taken stream = byBeginning z (segmentIn z s) pending s taken (λ pending′ s′. meaningFrom z taken pending′ s′ stream)
 
 -- with so many bytes taken and these bytes of the stream to come
 abbrev pub restAt : Lent → ℕ → Phase → List ℕ → List ℕ → ℕ → List ℕ → Meaning

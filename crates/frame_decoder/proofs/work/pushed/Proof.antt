@@ -8,14 +8,14 @@ use Rattle.frame_decoder.specs.Reader.{Reader, inPhase, advanced, pushed
 use Rattle.frame_decoder.specs.Paper.{paperPhase, paperReader}
 use Rattle.frame_decoder.specs.Private.Inside.{wanted}
 use Rattle.frame_decoder.specs.declared.Phase.{Phase}
-use Rattle.frame_decoder.specs.declared.Reader as code
+use Rattle.frame_decoder.specs.declared.FrameDecoder as code
 use Rattle.frame_decoder.proofs.Phases.{countsBy, known-by}
 use Rattle.frame_decoder.proofs.Works.{advanced-none}
 use borrow.Author.Needs.{needs}
 use Rattle.frame_decoder.proofs.work.pushed.Statement.{statement}
 use Rattle.frame_decoder.proofs.work.pushed.Tie as tie
 
-none-pushed : (m : code.Reader) (k : ℕ) {q : Phase} → m .phase ≡ q → wanted (countsBy m q) ≡ 0 → k ≤ wanted (countsOf (paperReader m)) → paperReader m ≡ pushed k (paperReader m)
+none-pushed : (m : code.FrameDecoder) (k : ℕ) {q : Phase} → m .phase ≡ q → wanted (countsBy m q) ≡ 0 → k ≤ wanted (countsOf (paperReader m)) → paperReader m ≡ pushed k (paperReader m)
 none-pushed m k is none h =
     let z : k ≡ 0 = omega (arith, none, known-by m is (λ (c : Counts). k ≤ wanted c) h) in
     sym (ap (λ (i : ℕ). pushed i (paperReader m)) z ∙ ap (inPhase (paperReader m)) (advanced-none (paperPhase (m .phase))))

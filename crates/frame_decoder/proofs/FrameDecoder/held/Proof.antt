@@ -1,11 +1,11 @@
--- `frame_decoder::Reader::held` meets its contract: of an admitted state the sum, of any other nothing. Assumes nothing.
+-- `frame_decoder::FrameDecoder::held` meets its contract: of an admitted state the sum, of any other nothing. Assumes nothing.
 use mathlib.Core.Path.{sym, ap, _∙_}
 use mathlib.Core.Bool.{Bool, cond}
 use Rattle.frame_decoder.specs.Reader.{countsOf, heldIn, held}
 use Rattle.frame_decoder.specs.Paper.{paperReader}
 use borrow.Author.Needs.{needs}
-use Rattle.frame_decoder.proofs.Reader.held.Statement.{statement}
-use Rattle.frame_decoder.proofs.Reader.held.Tie as tie
+use Rattle.frame_decoder.proofs.FrameDecoder.held.Statement.{statement}
+use Rattle.frame_decoder.proofs.FrameDecoder.held.Tie as tie
 
 pub held-spec : {M : Type 1} → statement M
 unfolding held

@@ -1,21 +1,21 @@
--- `frame_decoder::Reader::consume` meets its contract: the reader is copied out of its place, `read` makes the next one of it, and that is stored there. By the law of such functions. Assumes nothing.
+-- `frame_decoder::FrameDecoder::consume` meets its contract: the reader is copied out of its place, `read` makes the next one of it, and that is stored there. By the law of such functions. Assumes nothing.
 use mathlib.Core.Path.{refl}
 use mathlib.Core.List.{[], _∷_}
 use mir.Syntax.{imm, mut}
 use denote.Triple.Clauses.{atExit}
 use Rattle.basis.proofs.Thin.{struct-data, fields, thin}
-use Rattle.frame_decoder.proofs.Reader as T
-use Rattle.frame_decoder.proofs.Reader.Laws as T′
+use Rattle.frame_decoder.proofs.FrameDecoder as T
+use Rattle.frame_decoder.proofs.FrameDecoder.Laws as T′
 use Rattle.frame_decoder.proofs.Step as S
 use Rattle.frame_decoder.proofs.Step.Laws as S′
 use Rattle.frame_decoder.proofs.Heard as O
 use Rattle.frame_decoder.proofs.Heard.Laws as O′
-use Rattle.frame_decoder.proofs.Reader.read as step
-use Rattle.frame_decoder.proofs.Reader.read.Key as step-key
-use Rattle.frame_decoder.proofs.Reader.read.Met as step-thm
-use Rattle.frame_decoder.proofs.Reader.consume.Key as key
-use Rattle.frame_decoder.proofs.Reader.consume.Statement as stated
-use Rattle.frame_decoder.proofs.Reader.consume.Code as code
+use Rattle.frame_decoder.proofs.FrameDecoder.read as step
+use Rattle.frame_decoder.proofs.FrameDecoder.read.Key as step-key
+use Rattle.frame_decoder.proofs.FrameDecoder.read.Met as step-thm
+use Rattle.frame_decoder.proofs.FrameDecoder.consume.Key as key
+use Rattle.frame_decoder.proofs.FrameDecoder.consume.Statement as stated
+use Rattle.frame_decoder.proofs.FrameDecoder.consume.Code as code
 
 pub consume-spec : {M : Type 1} → stated.statement M
 unfolding code.routine

@@ -1,4 +1,4 @@
--- `frame_decoder::Reader::read` meets its contract: 1, or the work of an admitted reader. Assumes nothing.
+-- `frame_decoder::FrameDecoder::read` meets its contract: 1, or the work of an admitted reader. Assumes nothing.
 use mathlib.Core.Path.{sym, ap, _∙_}
 use mathlib.Core.Bool.{Bool, cond}
 use lib.ListN.{length}
@@ -9,8 +9,8 @@ use Rattle.frame_decoder.specs.Paper.{paperReader, paperStep}
 use Rattle.frame_decoder.specs.declared.Step.{Step}
 use Rattle.frame_decoder.proofs.Steps.{admitted}
 use borrow.Author.Needs.{needs}
-use Rattle.frame_decoder.proofs.Reader.read.Statement.{statement}
-use Rattle.frame_decoder.proofs.Reader.read.Tie as tie
+use Rattle.frame_decoder.proofs.FrameDecoder.read.Statement.{statement}
+use Rattle.frame_decoder.proofs.FrameDecoder.read.Tie as tie
 
 pub read-spec : {M : Type 1} → statement M
 unfolding call
