@@ -3,6 +3,7 @@ use mathlib.Core.Path.{refl, ap}
 use mathlib.Core.Bool.{true, false}
 use Rattle.basis.proofs.Determined.{Tells}
 use Rattle.refusal.proofs.Numbers.{caseOf, caseOf-paper}
+use Rattle.types.proofs.Told.{codePlace, walkOf}
 use Rattle.basis.specs.Front.{incomplete, refuses, whole}
 use Rattle.frame.specs.Paper.{isResponse, paperHeader, paperEnvelope, paperSize, paperReading}
 use Rattle.frame.specs.declared.Direction.{Direction}
@@ -32,8 +33,8 @@ envelope-told = record {
         size = e .size;
         header = header-told .back (e .header);
         traced = e .traced;
-        warnings = record { left = e .warnings .left; at = e .warnings .at };
-        body = record { start = e .body .start; len = e .body .len };
+        warnings = walkOf (e .warnings .left) (e .warnings .at);
+        body = codePlace (e .body);
       };
   is = λ e. ap (λ h. record { size = e .size; header = h; traced = e .traced; warnings = e .warnings; body = e .body }) (header-told .is (e .header));
 }

@@ -4,13 +4,14 @@ use mathlib.Core.Path.{_≡_, refl, sym, ap, ap₂, _∙_}
 use mathlib.Core.List.{List, [], _∷_, _++_}
 use native.Mathlib.Omega.{arith}
 use native.Mathlib.Numerals.{add-one}
-use native.Mathlib.Nat.{add-assoc, add-zero, pow-suc, zero-lt-suc, one-le-pow, mod-one, mod-eq-of-lt, mod-lt}
-use lib.Arith.{digits-lt, mod-mul, digits-div, digits-mod}
+use native.Mathlib.Nat.{add-assoc, add-zero, pow-suc, zero-lt-suc, mod-one, mod-eq-of-lt, mod-lt}
+use lib.Arith.{digits-lt, digits-div, digits-mod}
 use lib.ListN.{length, take, drop, set, getD}
 use lib.Seq.{drop-cons, set-split, append-snoc}
 use Rattle.basis.specs.Bytes.{Bytes}
 use Rattle.types.specs.Number.{part}
 use Rattle.types.specs.Write.{put}
+use Rattle.types.proofs.BigEndian.{digit-more}
 use Rattle.types.proofs.Put.{put-put, put-none}
 use Rattle.segment.specs.LittleEndian.{le, leDigits}
 
@@ -40,10 +41,7 @@ bytes-le (suc n) x (suc i) = bytes-le n (x / 256) i
 pub le-digits : (n x : ℕ) → le (leDigits n x) ≡ x % 256 ^ n
 unfolding le leDigits
 le-digits zero x = sym (mod-one x)
-le-digits (suc n) x =
-    ap (λ (k : ℕ). k * 256 + x % 256) (le-digits n (x / 256))
-    ∙ sym (mod-mul x (one-le-pow n 256 (zero-lt-suc 255)) (zero-lt-suc 255))
-    ∙ ap (λ (k : ℕ). x % k) (sym (pow-suc 256 n))
+le-digits (suc n) x = ap (λ (k : ℕ). k * 256 + x % 256) (le-digits n (x / 256)) ∙ digit-more n x
 
 pub le-digits-fit : (n x : ℕ) → x < 256 ^ n → le (leDigits n x) ≡ x
 le-digits-fit n x h = le-digits n x ∙ mod-eq-of-lt h

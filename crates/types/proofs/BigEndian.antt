@@ -63,15 +63,15 @@ unfolding digits
 length-digits zero x = refl
 length-digits (suc n) x = length-append (digits n (x / 256)) (x % 256 ∷ []) ∙ ap (λ (k : ℕ). k + 1) (length-digits n (x / 256)) ∙ add-one n
 
+-- the lowest byte of a number, and the n above it
+pub digit-more : (n x : ℕ) → x / 256 % 256 ^ n * 256 + x % 256 ≡ x % 256 ^ suc n
+digit-more n x = sym (mod-mul x (one-le-pow n 256 (zero-lt-suc 255)) (zero-lt-suc 255)) ∙ ap (λ (k : ℕ). x % k) (sym (pow-suc 256 n))
+
 -- written, then read: a number that n bytes hold
 pub be-digits : (n x : ℕ) → be (digits n x) ≡ x % 256 ^ n
 unfolding digits be beFrom
 be-digits zero x = sym (mod-one x)
-be-digits (suc n) x =
-    be-snoc (digits n (x / 256)) (x % 256)
-    ∙ ap (λ (k : ℕ). k * 256 + x % 256) (be-digits n (x / 256))
-    ∙ sym (mod-mul x (one-le-pow n 256 (zero-lt-suc 255)) (zero-lt-suc 255))
-    ∙ ap (λ (k : ℕ). x % k) (sym (pow-suc 256 n))
+be-digits (suc n) x = be-snoc (digits n (x / 256)) (x % 256) ∙ ap (λ (k : ℕ). k * 256 + x % 256) (be-digits n (x / 256)) ∙ digit-more n x
 
 pub be-digits-fit : (n x : ℕ) → x < 256 ^ n → be (digits n x) ≡ x
 be-digits-fit n x h = be-digits n x ∙ mod-eq-of-lt h

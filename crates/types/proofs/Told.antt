@@ -22,10 +22,10 @@ use Rattle.types.specs.declared.Walked.{Walked}
 use Rattle.types.specs.declared.Writable.{Writable}
 use Rattle.types.specs.declared.Written.{Written}
 
-abbrev codePlace : Place → code.Place
+abbrev pub codePlace : Place → code.Place
 codePlace p = record { start = p .start; len = p .len }
 
-abbrev walkOf : ℕ → ℕ → Walk
+abbrev pub walkOf : ℕ → ℕ → Walk
 walkOf left at = record { left = left; at = at }
 
 -- the answer that has this meaning, where a value is one case and a refusal the other
