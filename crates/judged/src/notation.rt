@@ -85,24 +85,17 @@ pub extern "C" fn judged_notation(kind: usize, bytes: &[u8], at: usize, said: &m
     }
 }
 
-fn put_text(said: &mut [usize], place: Place, walk: Walk) {
-    words::put4(said, 0, 2, place.start, place.len, walk.at);
-    words::put(said, 4, walk.left as usize);
-}
-
-// A part, with the number of strings left in word 4, or 3 at the end.
-fn put_walked(said: &mut [usize], walked: Walked) {
-    match walked {
-        Walked::Text(place, walk) => put_text(said, place, walk),
+// The next string of a list of which so many are left: a part, with the number of strings left in word 4, or 3 at the end.
+#[no_mangle]
+pub extern "C" fn judged_next(bytes: &[u8], left: u16, at: usize, said: &mut [usize]) {
+    match read::next_string(bytes, Walk { left, at }) {
+        Walked::Text(place, walk) => {
+            words::put4(said, 0, 2, place.start, place.len, walk.at);
+            words::put(said, 4, walk.left as usize);
+        }
         Walked::End(next) => words::put4(said, 0, 3, 0, 0, next),
         Walked::Refused(why) => words::put_refused(said, 0, why),
     }
-}
-
-// The next string of a list of which so many are left.
-#[no_mangle]
-pub extern "C" fn judged_next(bytes: &[u8], left: u16, at: usize, said: &mut [usize]) {
-    put_walked(said, read::next_string(bytes, Walk { left, at }));
 }
 
 // Copies the part at a place, and answers how long it is.
