@@ -13,8 +13,8 @@ ghost use Rattle.frame_decoder.specs.Paper.{paperReader};
 ghost use Rattle.frame_decoder.specs.Private.Inside.{paperDue, Admitted};
 use crate::Answer;
 use crate::Buffer;
-use crate::Phase;
 use crate::FrameDecoder;
+use crate::Phase;
 use frame::Reading;
 use frame::read::read_envelope;
 use refusal::Refusal;
@@ -170,7 +170,13 @@ fn append(m: FrameDecoder, payload: &[u8], reassembly: &mut [u8]) -> Due
 }
 
 // A segment whose check holds: 6, or its payload is read where it stands; or it joins the pending bytes.
-fn received(m: FrameDecoder, segment: &[u8], reassembly: &mut [u8], len: usize, self_contained: bool) -> Due
+fn received(
+    m: FrameDecoder,
+    segment: &[u8],
+    reassembly: &mut [u8],
+    len: usize,
+    self_contained: bool,
+) -> Due
     requires { ⌜ (segmentLength (paperForm (m .form)) len ≤ length (now segment)) × (m .pending ≤ length (now reassembly)) ⌝ }
     ensures { λ r. ⌜ settled (paperDue r) (now (reassembly .exit)) ≡ received (paperReader m) (now (segment .entry)) (now (reassembly .entry)) len «self_contained» (part (now (segment .entry)) (headerLength (paperForm (m .form))) len) ⌝ }
 {

@@ -8,9 +8,9 @@ ghost use Rattle.frame_decoder.specs.Call.{work};
 ghost use Rattle.frame_decoder.specs.Paper.{paperReader, paperStep};
 ghost use Rattle.frame_decoder.specs.Private.Inside.{Admitted, wanted, Roomy, stepOf, FilledIs, TurnIs};
 use crate::Answer;
+use crate::FrameDecoder;
 use crate::Heard;
 use crate::Phase;
-use crate::FrameDecoder;
 use crate::Step;
 use crate::settle::Due;
 use crate::settle::settle;
@@ -135,7 +135,12 @@ fn take_turn(
 }
 
 // Each turn but the last takes a byte at least.
-pub(crate) fn work(reader: FrameDecoder, segment: &mut [u8], reassembly: &mut [u8], piece: &[u8]) -> Step
+pub(crate) fn work(
+    reader: FrameDecoder,
+    segment: &mut [u8],
+    reassembly: &mut [u8],
+    piece: &[u8],
+) -> Step
     requires { ⌜ Admitted (paperReader reader) (length (now segment)) (length (now reassembly)) ⌝ }
     ensures { λ r. ⌜ paperStep r (now (segment .exit)) (now (reassembly .exit)) ≡ work 0 (paperReader reader) (now (segment .entry)) (now (reassembly .entry)) (now (piece .entry)) ⌝ }
 {

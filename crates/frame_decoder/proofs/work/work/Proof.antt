@@ -22,6 +22,19 @@ Inv-loop segment₀ reassembly₀ piece m₀ taken₀ segment reassembly m taken
 abbrev μ-loop : tie.MeasureT-loop
 μ-loop segment₀ reassembly₀ piece m₀ taken₀ segment reassembly m taken = length piece - taken
 
+abbrev Turned : Type 0
+Turned = tie.After-take-turn Inv-loop μ-loop
+
+abbrev turn : Turned → tie.At-loop Inv-loop μ-loop
+turn t = t .before .before .before
+
+-- what a turn left
+means : (t : Turned) {y : Turn} → t .take-turn .result ≡ y
+    → let l = turn t .loop in TurnIs y (l .taken) (paperReader (l .m)) (l .segment) (l .reassembly) (turn t .before .before .before .before .args .piece .now) (t .take-turn .last .1 .1 .0) (t .take-turn .last .1 .1 .1 .0)
+means t e =
+    let l = turn t .loop in
+    subst (λ (y : Turn). TurnIs y (l .taken) (paperReader (l .m)) (l .segment) (l .reassembly) (turn t .before .before .before .before .args .piece .now) (t .take-turn .last .1 .1 .0) (t .take-turn .last .1 .1 .1 .0)) e (t .take-turn .ensures)
+
 pub work-spec : {M : Type 1} → statement M
 work-spec =
     tie.close
@@ -31,24 +44,15 @@ work-spec =
     (λ c. (omega arith, refl, refl, c .before .before .before .pre, refl))
     (λ c κs. (c .before .before .loop .inv .3, c .before .before .loop .inv .0))
     (λ c. search needs)
-    (λ c. c .before .before .before .before .before .before .before .take-turn .kept .1 .1 .0 ∙ c .before .before .before .before .before .before .before .before .before .before .loop .inv .1)
-    (λ c. c .before .before .before .before .before .before .before .take-turn .kept .1 .1 .1 .0 ∙ c .before .before .before .before .before .before .before .before .before .before .loop .inv .2)
-    (λ c.
-    let l = c .before .before .before .before .before .before .before .before .before .before .loop in
-    let t = c .before .before .before .before .before .before .before .take-turn in
-    let a = c .before .before .before .before .before .before .before .before .before .before .before .before .before .before .args in
-    let means = subst (λ (y : Turn). TurnIs y (l .taken) (paperReader (l .m)) (l .segment) (l .reassembly) (a .piece .now) (t .last .1 .1 .0) (t .last .1 .1 .1 .0)) (c .before .s .given .1) (t .ensures) in
-    means ∙ l .inv .4)
+    (λ c. let t = c .before .before .before .before .before .before .before in t .take-turn .kept .1 .1 .0 ∙ turn t .loop .inv .1)
+    (λ c. let t = c .before .before .before .before .before .before .before in t .take-turn .kept .1 .1 .1 .0 ∙ turn t .loop .inv .2)
+    (λ c. let t = c .before .before .before .before .before .before .before in means t (c .before .s .given .1) ∙ turn t .loop .inv .4)
     (λ c. search needs)
     (λ c.
-    let l = c .before .before .before .before .before .before .before .before .before .before .loop in
-    let t = c .before .before .before .before .before .before .before .take-turn in
-    let a = c .before .before .before .before .before .before .before .before .before .before .before .before .before .before .args in
-    let means = subst (λ (y : Turn). TurnIs y (l .taken) (paperReader (l .m)) (l .segment) (l .reassembly) (a .piece .now) (t .last .1 .1 .0) (t .last .1 .1 .1 .0)) (c .before .next .given .1) (t .ensures) in
-    omega (arith, means .later, means .within, l .inv .0))
+    let t = c .before .before .before .before .before .before .before in
+    let on = means t (c .before .next .given .1) in
+    omega (arith, on .later, on .within, turn t .loop .inv .0))
     (λ c.
-    let l = c .before .before .before .before .before .before .before .before .before .before .loop in
-    let t = c .before .before .before .before .before .before .before .take-turn in
-    let a = c .before .before .before .before .before .before .before .before .before .before .before .before .before .before .args in
-    let means = subst (λ (y : Turn). TurnIs y (l .taken) (paperReader (l .m)) (l .segment) (l .reassembly) (a .piece .now) (t .last .1 .1 .0) (t .last .1 .1 .1 .0)) (c .before .next .given .1) (t .ensures) in
-    (means .within, t .kept .1 .1 .0 ∙ l .inv .1, t .kept .1 .1 .1 .0 ∙ l .inv .2, means .good, means .same ∙ l .inv .4)))
+    let t = c .before .before .before .before .before .before .before in
+    let on = means t (c .before .next .given .1) in
+    (on .within, t .take-turn .kept .1 .1 .0 ∙ turn t .loop .inv .1, t .take-turn .kept .1 .1 .1 .0 ∙ turn t .loop .inv .2, on .good, on .same ∙ turn t .loop .inv .4)))
