@@ -6,14 +6,13 @@ use mathlib.Core.List.{List, [], _∷_, _++_, append-assoc, append-nil}
 use native.Mathlib.Omega.{arith}
 use lib.ListN.{length, take, drop, length-drop, take-append-drop}
 use lib.Seq.{drop-drop, drop-length, length-take-le}
-use Rattle.basis.specs.Machine.{Dated, dated, says, refusedAfter, holding, saying, Close, usedUp, refusedWith, Uses, by-more, by-refusal, after-one}
+use Rattle.basis.specs.Machine.{Dated, dated, refusedAfter, holding, saying, Close, usedUp, refusedWith, Uses, by-more, by-refusal, after-one}
 use Rattle.basis.proofs.Machine.{Hands, Kept, kept-by, Told, told, one-then, refused-longer}
 use Rattle.refusal.specs.Refusal.{Refusal, inadmissible}
 use Rattle.types.specs.Number.{part}
 use Rattle.types.specs.Read.{Place}
 use Rattle.types.proofs.BigEndian.{length-part}
 use Rattle.segment.specs.Header.{Form}
-use Rattle.segment.proofs.HeaderLaid.{head-most}
 use Rattle.frame.specs.Envelope.{Envelope}
 use Rattle.frame_decoder.specs.Reader.{Phase, inHeader, inRest, inSegment, inReassembly, stopped, Reader, fresh, Buffer, bytesAt, Answer, envelopeAt, leftover, more, refused, countsIn, countsOf, inRange, maxReassembly}
 use Rattle.frame_decoder.specs.Call.{Outcome, outcome, call}
@@ -22,8 +21,12 @@ use Rattle.frame_decoder.proofs.Steps.{roomy}
 use Rattle.stream.specs.Meaning.{Said, envelopeOf, leftoverOf, held, Meaning}
 use Rattle.stream.specs.Caller.{State, state, stepOf, reads, holds, start, heardOf}
 use Rattle.stream.specs.Collect.{bytesOf, markOf, Tape, blank, noted, collected, Ending, refusedEnd, heldEnd, endOf, HeardAs}
-use Rattle.stream.specs.Private.Inside.{Way, Going, notedAll, Onward, endingOf, Over, Wants, ahead}
-use Rattle.stream.specs.Private.Turn.{PieceUsed, Answered}
+use Rattle.stream.specs.Private.Inside.{Way, Going, notedAll, Onward, endingOf, Over, ahead}
+use Rattle.stream.specs.Private.Turn.{wayOf, AllHeard, PieceUsed, Answered, TurnIs, UsedIs}
+use Rattle.stream.specs.declared.Collected.{Collected}
+use Rattle.stream.specs.declared.Progress.{Progress}
+use Rattle.stream.specs.declared.Turn.{Turn}
+use Rattle.stream.specs.declared.Used.{Used}
 use Rattle.stream.proofs.Calls.{Called, called}
 use Rattle.stream.proofs.Longer.{call-waiting}
 use Rattle.stream.proofs.Pieces.{reader, lawful, fresh-ready, fresh-rest, heard-none, out-of-range}
@@ -47,22 +50,26 @@ onward-then {stream} {w} {v} {u} p q =
           (p .gives (q .handed ++ xs) c end t (q .gives xs c end t g));
     }
 
--- the caller lends the same lists, as long as they were
-abbrev pub SameLengths : Way → Way → Type 0
-SameLengths w v =
-    (length (v .at .segment) ≡ length (w .at .segment))
-    × (length (v .at .reassembly) ≡ length (w .at .reassembly))
-    × (length (v .tape .envelopes) ≡ length (w .tape .envelopes))
-    × (length (v .tape .marks) ≡ length (w .tape .marks))
+-- the segment buffer, the reassembly buffer, the output of envelopes and that of marks are as long as they were
+abbrev pub SameLengths : List ℕ → List ℕ → List ℕ → List ℕ → List ℕ → List ℕ → List ℕ → List ℕ → Type 0
+SameLengths s r e m s′ r′ e′ m′ = (length s′ ≡ length s) × (length r′ ≡ length r) × (length e′ ≡ length e) × (length m′ ≡ length m)
+
+-- a call keeps them behind what was kept before; its list of what it keeps has the stream between the buffers and the outputs
+pub lengths-then : {a b c d a′ b′ c′ d′ a″ b″ c″ d″ : ℕ} {X Y : Type 0} → (a″ ≡ a′) × ((b″ ≡ b′) × (X × ((c″ ≡ c′) × ((d″ ≡ d′) × Y)))) → (a′ ≡ a) × (b′ ≡ b) × (c′ ≡ c) × (d′ ≡ d)
+    → (a″ ≡ a) × (b″ ≡ b) × (c″ ≡ c) × (d″ ≡ d)
+lengths-then k l = (k .0 ∙ l .0, k .1 .0 ∙ l .1, k .1 .1 .1 .0 ∙ l .2, k .1 .1 .1 .1 .0 ∙ l .3)
 
 -- what each loop keeps: from where it set out to where it is
 pub record Underway (stream : List ℕ) (w v : Way) : Type 0 where
-  pub lengths : SameLengths w v
+  pub lengths : SameLengths (w .at .segment) (w .at .reassembly) (w .tape .envelopes) (w .tape .marks) (v .at .segment) (v .at .reassembly) (v .tape .envelopes) (v .tape .marks)
   pub going : Going stream v
   pub onward : Onward stream w v
 
 pub underway-first : {stream : List ℕ} {w : Way} → Going stream w → Underway stream w w
 underway-first g = record { lengths = (refl, refl, refl, refl); going = g; onward = onward-same _ _ }
+
+pub used-onward : {stream : List ℕ} {end : ℕ} {w v u : Way} → Onward stream w v → PieceUsed stream end v u → PieceUsed stream end w u
+used-onward p q = record { going = q .going; all = q .all; wants = q .wants; onward = onward-then p (q .onward) }
 
 pub onward-over : {stream : List ℕ} {w v : Way} {t : Tape} {e : Ending} {S R : List ℕ} → Onward stream w v → Over stream v t e S R → Over stream w t e S R
 onward-over {w = w} {S = S} {R = R} p q =
@@ -176,6 +183,29 @@ module _ {stream : List ℕ} {end : ℕ} {w : Way} (asked : Going stream w × (w
           notes = refl;
           ends = refl;
         }
+
+-- ---- what a turn means, and a piece that was given, by what it came to
+
+module _ (end : ℕ) {stream : List ℕ} {w : Way} {S R E M : List ℕ} where
+  pub turn-on : {y : Turn} {p : Progress} → y ≡ Turn.On p → TurnIs y end stream w S R E M → Answered stream end w (wayOf p S R E M)
+  unfolding TurnIs
+  turn-on is m = subst (λ (x : Turn). TurnIs x end stream w S R E M) is m
+
+  pub turn-more : {y : Turn} {p : Progress} → y ≡ Turn.More p → TurnIs y end stream w S R E M → PieceUsed stream end w (wayOf p S R E M)
+  unfolding TurnIs
+  turn-more is m = subst (λ (x : Turn). TurnIs x end stream w S R E M) is m
+
+  pub turn-stopped : {y : Turn} {c : Collected} → y ≡ Turn.Stopped c → TurnIs y end stream w S R E M → AllHeard c stream w S R E M
+  unfolding TurnIs
+  turn-stopped is m = subst (λ (x : Turn). TurnIs x end stream w S R E M) is m
+
+  pub used-up : {y : Used} {p : Progress} → y ≡ Used.Up p → UsedIs y end stream w S R E M → PieceUsed stream end w (wayOf p S R E M)
+  unfolding UsedIs
+  used-up is m = subst (λ (x : Used). UsedIs x end stream w S R E M) is m
+
+  pub used-stopped : {y : Used} {c : Collected} → y ≡ Used.Stopped c → UsedIs y end stream w S R E M → AllHeard c stream w S R E M
+  unfolding UsedIs
+  used-stopped is m = subst (λ (x : Used). UsedIs x end stream w S R E M) is m
 
 -- ---- the end
 

@@ -1,11 +1,9 @@
 -- `stream::give` meets its contract: piece after piece the same is still to be heard. Assumes nothing.
-use Prim.Native.Nat.{ℕ, _-_}
-use mathlib.Core.Path.{_≡_, subst, _∙_}
+use Prim.Native.Nat.{_-_}
 use native.Mathlib.Omega.{arith}
 use lib.ListN.{length}
-use Rattle.stream.specs.Private.Turn.{wayOf, UsedIs}
-use Rattle.stream.specs.declared.Used.{Used}
-use Rattle.stream.proofs.Turns.{SameLengths, Underway, underway-first, onward-then, onward-over}
+use Rattle.stream.specs.Private.Turn.{wayOf}
+use Rattle.stream.proofs.Turns.{SameLengths, lengths-then, Underway, underway-first, onward-then, onward-over, used-up, used-stopped}
 use borrow.Author.Needs.{needs}
 use Rattle.stream.proofs.give.Statement.{statement}
 use Rattle.stream.proofs.give.Tie as tie
@@ -17,38 +15,19 @@ Inv-loop segment₀ reassembly₀ stream cuts envelopes₀ marks₀ p₀ i₀ se
 abbrev μ-loop : tie.MeasureT-loop
 μ-loop segment₀ reassembly₀ stream cuts envelopes₀ marks₀ p₀ i₀ segment reassembly envelopes marks p i = length cuts - i
 
--- ---- where a piece is used up or the reader has stopped
+-- ---- where a piece was given
 
-module _ (k : tie.After-slice-known8 Inv-loop μ-loop) where
-  abbrev given : tie.After-use-up Inv-loop μ-loop
-  given = k .before .before .before .before .before .before .before .before
+abbrev given : tie.After-slice-known8 Inv-loop μ-loop → tie.After-use-up Inv-loop μ-loop
+given k = k .before .before .before .before .before .before .before .before
 
-  abbrev cut : tie.After-piece-end Inv-loop μ-loop
-  cut = given .before .before .before .before .before
+abbrev from : tie.After-slice-known8 Inv-loop μ-loop → tie.In-loop Inv-loop μ-loop
+from k = given k .before .before .before .before .before .before .before
 
-  abbrev from : tie.In-loop Inv-loop μ-loop
-  from = cut .before .before
+kept : (k : tie.After-slice-known8 Inv-loop μ-loop) → let a = from k .before .before .before .before .before .before .before .before .args in let t = given k .use-up .last .1 .1 in
+    SameLengths (a .segment .now) (a .reassembly .now) (a .envelopes .now) (a .marks .now) (t .0) (t .1 .0) (t .1 .1 .1 .0) (t .1 .1 .1 .1 .0)
+kept k = lengths-then (given k .use-up .kept .1 .1) (from k .before .loop .inv .lengths)
 
-  abbrev start : tie.Start Inv-loop μ-loop
-  start = from .before .before .before .before .before .before .before .before
-
-  abbrev Means : Used → Type 0
-  Means y =
-      let l = from .before .loop in
-      let t = given .use-up .last .1 .1 in
-      UsedIs y (cut .piece-end .result) (start .args .stream .now) (wayOf (l .p) (l .segment) (l .reassembly) (l .envelopes) (l .marks)) (t .0) (t .1 .0) (t .1 .1 .1 .0) (t .1 .1 .1 .1 .0)
-
-  means : {y : Used} → given .use-up .result ≡ y → Means y
-  means e = subst Means e (given .use-up .ensures)
-
-  kept : let a = start .args in let t = given .use-up .last .1 .1 in
-      SameLengths (wayOf (a .start) (a .segment .now) (a .reassembly .now) (a .envelopes .now) (a .marks .now)) (wayOf (a .start) (t .0) (t .1 .0) (t .1 .1 .1 .0) (t .1 .1 .1 .1 .0))
-  kept =
-      let t = given .use-up .kept .1 .1 in
-      let i = from .before .loop .inv .lengths in
-      (t .0 ∙ i .0, t .1 .0 ∙ i .1, t .1 .1 .1 .0 ∙ i .2, t .1 .1 .1 .1 .0 ∙ i .3)
-
--- ---- where the rest is given
+-- ---- where the rest was given
 
 abbrev rest : tie.After-slice-known12 Inv-loop μ-loop → tie.After-give-rest Inv-loop μ-loop
 rest c = c .before .before .before .before .before .before .before .before
@@ -73,16 +52,16 @@ give-spec =
     (λ c. kept (c .before .before .before) .1)
     (λ c. kept (c .before .before .before) .2)
     (λ c. kept (c .before .before .before) .3)
-    (λ c. let k = c .before .before .before in onward-over (from k .before .loop .inv .onward) (means k (c .before .c .given .1)))
-    (λ c. let k = c .before .before .before in record { fits = omega (arith, from k .loop-test .taken, start k .good .1 .1 .1 .1 .0 .0) })
+    (λ c. let k = c .before .before .before in onward-over (from k .before .loop .inv .onward) (used-stopped _ (c .before .c .given .1) (given k .use-up .ensures)))
+    (λ c. let k = c .before .before .before in record { fits = omega (arith, from k .loop-test .taken, from k .before .before .before .before .before .before .before .before .good .1 .1 .1 .1 .0 .0) })
     (λ c. omega (arith, from (c .before .before .before) .loop-test .taken))
     (λ c.
     let k = c .before .before .before in
-    let m = means k (c .before .next .given .1) in
+    let m = used-up _ (c .before .next .given .1) (given k .use-up .ensures) in
     record { lengths = kept k; going = m .going; onward = onward-then (from k .before .loop .inv .onward) (m .onward) })
     (λ c κs. c .before .before .before .before .before .loop .inv .going)
-    (λ c. rest c .give-rest .kept .1 .0 ∙ last c .loop .inv .lengths .0)
-    (λ c. rest c .give-rest .kept .1 .1 .0 ∙ last c .loop .inv .lengths .1)
-    (λ c. rest c .give-rest .kept .1 .1 .1 .1 .0 ∙ last c .loop .inv .lengths .2)
-    (λ c. rest c .give-rest .kept .1 .1 .1 .1 .1 .0 ∙ last c .loop .inv .lengths .3)
+    (λ c. lengths-then (rest c .give-rest .kept .1) (last c .loop .inv .lengths) .0)
+    (λ c. lengths-then (rest c .give-rest .kept .1) (last c .loop .inv .lengths) .1)
+    (λ c. lengths-then (rest c .give-rest .kept .1) (last c .loop .inv .lengths) .2)
+    (λ c. lengths-then (rest c .give-rest .kept .1) (last c .loop .inv .lengths) .3)
     (λ c. onward-over (last c .loop .inv .onward) (rest c .give-rest .ensures)))

@@ -1,11 +1,7 @@
 -- `stream::note` meets its contract: both outputs have room, or neither is touched. Assumes nothing.
-use Prim.Native.Nat.{ℕ}
-use mathlib.Core.Path.{_≡_, refl, sym, ap, _∙_}
-use mathlib.Core.Bool.{true}
-use mathlib.Core.List.{List}
+use mathlib.Core.Path.{refl, sym, _∙_}
 use native.Mathlib.Omega.{arith}
 use borrow.Author.Tests.{lt-ltb, le-ltb}
-use Rattle.stream.specs.Collect.{tape}
 use Rattle.stream.proofs.Noting.{noted-by}
 use borrow.Author.Needs.{needs}
 use Rattle.stream.proofs.note.Statement.{statement}
