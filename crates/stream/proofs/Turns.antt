@@ -68,9 +68,6 @@ pub record Underway (stream : List ℕ) (w v : Way) : Type 0 where
 pub underway-first : {stream : List ℕ} {w : Way} → Going stream w → Underway stream w w
 underway-first g = record { lengths = (refl, refl, refl, refl); going = g; onward = onward-same _ _ }
 
-pub used-onward : {stream : List ℕ} {end : ℕ} {w v u : Way} → Onward stream w v → PieceUsed stream end v u → PieceUsed stream end w u
-used-onward p q = record { going = q .going; all = q .all; wants = q .wants; onward = onward-then p (q .onward) }
-
 pub onward-over : {stream : List ℕ} {w v : Way} {t : Tape} {e : Ending} {S R : List ℕ} → Onward stream w v → Over stream v t e S R → Over stream w t e S R
 onward-over {w = w} {S = S} {R = R} p q =
     record {
@@ -191,14 +188,6 @@ module _ (end : ℕ) {stream : List ℕ} {w : Way} {S R E M : List ℕ} where
   unfolding TurnIs
   turn-on is m = subst (λ (x : Turn). TurnIs x end stream w S R E M) is m
 
-  pub turn-more : {y : Turn} {p : Progress} → y ≡ Turn.More p → TurnIs y end stream w S R E M → PieceUsed stream end w (wayOf p S R E M)
-  unfolding TurnIs
-  turn-more is m = subst (λ (x : Turn). TurnIs x end stream w S R E M) is m
-
-  pub turn-stopped : {y : Turn} {c : Collected} → y ≡ Turn.Stopped c → TurnIs y end stream w S R E M → AllHeard c stream w S R E M
-  unfolding TurnIs
-  turn-stopped is m = subst (λ (x : Turn). TurnIs x end stream w S R E M) is m
-
   pub used-up : {y : Used} {p : Progress} → y ≡ Used.Up p → UsedIs y end stream w S R E M → PieceUsed stream end w (wayOf p S R E M)
   unfolding UsedIs
   used-up is m = subst (λ (x : Used). UsedIs x end stream w S R E M) is m
@@ -206,6 +195,16 @@ module _ (end : ℕ) {stream : List ℕ} {w : Way} {S R E M : List ℕ} where
   pub used-stopped : {y : Used} {c : Collected} → y ≡ Used.Stopped c → UsedIs y end stream w S R E M → AllHeard c stream w S R E M
   unfolding UsedIs
   used-stopped is m = subst (λ (x : Used). UsedIs x end stream w S R E M) is m
+
+-- what was handed on before comes first
+used-then : (u : Used) {stream : List ℕ} {w v : Way} (end : ℕ) (S R E M : List ℕ) → Onward stream w v → UsedIs u end stream v S R E M → UsedIs u end stream w S R E M
+unfolding UsedIs
+used-then (Used.Up p) end S R E M o m = record { going = m .going; all = m .all; wants = m .wants; onward = onward-then o (m .onward) }
+used-then (Used.Stopped c) end S R E M o m = onward-over o m
+
+pub turn-done : {y : Turn} {u : Used} {stream : List ℕ} {w v : Way} (end : ℕ) (S R E M : List ℕ) → Onward stream w v → y ≡ Turn.Done u → TurnIs y end stream v S R E M → UsedIs u end stream w S R E M
+unfolding TurnIs
+turn-done {u = u} {stream} {v = v} end S R E M o is m = used-then u end S R E M o (subst (λ (x : Turn). TurnIs x end stream v S R E M) is m)
 
 -- ---- the end
 

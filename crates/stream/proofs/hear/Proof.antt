@@ -7,7 +7,7 @@ use Rattle.frame_decoder.specs.Call.{Outcome, outcome}
 use Rattle.frame_decoder.specs.Paper.{paperAnswer, paperReader}
 use Rattle.frame_decoder.specs.declared.Answer.{Answer}
 use Rattle.stream.specs.Private.Inside.{Way}
-use Rattle.stream.specs.Private.Turn.{wayOf, TurnIs}
+use Rattle.stream.specs.Private.Turn.{wayOf, TurnIs, UsedIs}
 use Rattle.stream.proofs.Turns.{Comes, turn-within, envelope-turn, leftover-turn, leftover-small, more-turn, refused-turn}
 use borrow.Author.Needs.{needs}
 use Rattle.stream.proofs.hear.Statement.{statement}
@@ -35,7 +35,7 @@ dropped : (c : tie.After-answer2) → c .answer2 .given .0 .0 ≤ maxReassembly
 dropped c = let k = c .before .before in leftover-small (start k .pre) (comes k (c .answer2 .given .1))
 
 pub hear-spec : {M : Type 1} → statement M
-unfolding TurnIs
+unfolding TurnIs UsedIs
 hear-spec =
     tie.close
     (tie.spec

@@ -2,8 +2,8 @@
 use Prim.Native.Nat.{_≤_}
 use lib.ListN.{length}
 use Rattle.stream.specs.Private.Inside.{leftTo}
-use Rattle.stream.specs.Private.Turn.{wayOf, UsedIs}
-use Rattle.stream.proofs.Turns.{SameLengths, lengths-then, Underway, underway-first, onward-then, onward-over, used-onward, turn-on, turn-more, turn-stopped}
+use Rattle.stream.specs.Private.Turn.{wayOf}
+use Rattle.stream.proofs.Turns.{SameLengths, lengths-then, Underway, underway-first, onward-then, turn-on, turn-done}
 use borrow.Author.Needs.{needs}
 use Rattle.stream.proofs.use_up.Statement.{statement}
 use Rattle.stream.proofs.use_up.Tie as tie
@@ -28,7 +28,6 @@ kept : (k : tie.After-slice-known8 Inv-loop μ-loop) → let a = from k .before 
 kept k = lengths-then (taken k .hear .kept .1 .1) (from k .loop .inv .0 .lengths)
 
 pub use-up-spec : {M : Type 1} → statement M
-unfolding UsedIs
 use-up-spec =
     tie.close
     (tie.spec
@@ -48,10 +47,4 @@ use-up-spec =
     (λ c. kept (c .before .before .before) .1)
     (λ c. kept (c .before .before .before) .2)
     (λ c. kept (c .before .before .before) .3)
-    (λ c. let k = c .before .before .before in used-onward (from k .loop .inv .0 .onward) (turn-more _ (c .before .next2 .given .1) (taken k .hear .ensures)))
-    (λ c. search needs)
-    (λ c. kept (c .before .before .before) .0)
-    (λ c. kept (c .before .before .before) .1)
-    (λ c. kept (c .before .before .before) .2)
-    (λ c. kept (c .before .before .before) .3)
-    (λ c. let k = c .before .before .before in onward-over (from k .loop .inv .0 .onward) (turn-stopped _ (c .before .c .given .1) (taken k .hear .ensures))))
+    (λ c. let k = c .before .before .before in turn-done _ _ _ _ _ (from k .loop .inv .0 .onward) (c .before .used .given .1) (taken k .hear .ensures)))
