@@ -1,9 +1,9 @@
 -- Readers that the promise of a call shuts out, by name. Assumes nothing.
 use Prim.Native.Nat.{ℕ}
 use mathlib.Core.Path.{_≡_}
-use mathlib.Core.Bool.{true, false}
+use mathlib.Core.Bool.{Bool, true, false}
 use mathlib.Core.List.{List, [], _∷_}
-use lib.IntN.{pos, negsuc}
+use lib.IntN.{ℤ, pos, negsuc}
 use lib.ListN.{drop}
 use Rattle.basis.specs.Machine.{Step, says, refusedAfter, holding}
 use Rattle.refusal.specs.Refusal.{Refusal}
@@ -53,28 +53,25 @@ OnlyNods R = (r : Reader) (segment reassembly piece : List ℕ) → next R r seg
 
 -- ---- what they are caught with: docs/RULES.md, section 13, P5 and P6
 
-abbrev pub P5 : List ℕ
-P5 = 0x05 ∷ 0x00 ∷ 0x00 ∷ 0x01 ∷ 0x05 ∷ 0x00 ∷ 0x00 ∷ 0x00 ∷ 0x00 ∷ []
-
-abbrev pub readingOfP5 : Envelope
-readingOfP5 =
+-- nine bytes that are a header alone, with this direction, stream number and opcode
+abbrev headerAlone : Bool → ℤ → ℕ → Envelope
+headerAlone response stream opcode =
     record {
       size = 9;
-      header = record { version = 5; response = false; flags = 0; stream = pos 1; opcode = 0x05 };
+      header = record { version = 5; response = response; flags = 0; stream = stream; opcode = opcode };
       traced = false;
       warnings = strings 0 9;
       body = place 9 0;
     }
+
+abbrev pub P5 : List ℕ
+P5 = 0x05 ∷ 0x00 ∷ 0x00 ∷ 0x01 ∷ 0x05 ∷ 0x00 ∷ 0x00 ∷ 0x00 ∷ 0x00 ∷ []
+
+abbrev pub readingOfP5 : Envelope
+readingOfP5 = headerAlone false (pos 1) 0x05
 
 abbrev pub P6 : List ℕ
 P6 = 0x85 ∷ 0x00 ∷ 0xff ∷ 0xff ∷ 0x0c ∷ 0x00 ∷ 0x00 ∷ 0x00 ∷ 0x00 ∷ []
 
 abbrev pub readingOfP6 : Envelope
-readingOfP6 =
-    record {
-      size = 9;
-      header = record { version = 5; response = true; flags = 0; stream = negsuc 0; opcode = 0x0c };
-      traced = false;
-      warnings = strings 0 9;
-      body = place 9 0;
-    }
+readingOfP6 = headerAlone true (negsuc 0) 0x0c

@@ -75,16 +75,16 @@ struct Progress {
     notes: Notes,
 }
 
-// What one call leaves: another answer to hear, a piece that is used up, or the end.
-enum Turn {
-    On(Progress),
-    More(Progress),
-    Stopped(Collected),
-}
-
+// What a piece leaves: it is used up, or the reader has stopped.
 enum Used {
     Up(Progress),
     Stopped(Collected),
+}
+
+// What one call leaves: another answer to hear, or what its piece leaves.
+enum Turn {
+    On(Progress),
+    Done(Used),
 }
 
 // One call with the bytes of the stream up to end.
@@ -126,14 +126,14 @@ fn hear(
                 notes: more,
             })
         }
-        Answer::More => Turn::More(Progress {
+        Answer::More => Turn::Done(Used::Up(Progress {
             reader: next,
             taken,
             notes,
-        }),
+        })),
         Answer::Refused(e) => {
             let end = End::Refused(e, taken);
-            Turn::Stopped(Collected { notes, end })
+            Turn::Done(Used::Stopped(Collected { notes, end }))
         }
     }
 }
@@ -157,11 +157,8 @@ fn use_up(
             Turn::On(next) => {
                 p = next;
             }
-            Turn::More(next) => {
-                return Used::Up(next);
-            }
-            Turn::Stopped(c) => {
-                return Used::Stopped(c);
+            Turn::Done(used) => {
+                return used;
             }
         }
     }

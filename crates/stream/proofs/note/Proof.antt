@@ -1,15 +1,8 @@
 -- `stream::note` meets its contract: both outputs have room, or neither is touched. Assumes nothing.
-use Prim.Native.Nat.{ℕ, _+_}
-use mathlib.Core.Path.{_≡_, refl, sym, ap, ap₂, _∙_}
-use mathlib.Core.Bool.{Bool, true, false, _&&_}
-use mathlib.Core.List.{List}
+use mathlib.Core.Path.{refl, sym, _∙_}
 use native.Mathlib.Omega.{arith}
 use borrow.Author.Tests.{lt-ltb, le-ltb}
-use lib.Dec.{leb, ltb}
-use lib.ListN.{length, set}
-use Rattle.stream.specs.Collect.{tape}
-use Rattle.stream.specs.Paper.{tapeOf}
-use Rattle.stream.proofs.Noting.{noted-there, not-noted}
+use Rattle.stream.proofs.Noting.{noted-by}
 use borrow.Author.Needs.{needs}
 use Rattle.stream.proofs.note.Statement.{statement}
 use Rattle.stream.proofs.note.Tie as tie
@@ -23,26 +16,13 @@ note-spec =
     (λ c. search needs)
     (λ c κs. omega (arith, c .before .before .room .ensures .1 (c .before .if3 .taken)))
     (λ c. search needs)
-    (λ c. record { fits = omega (arith, c .before .before .before .before .before .room .ensures .1 (c .before .before .before .before .if3 .taken), c .before .before .before .before .before .before .before .before .before .before .before .good .1 .0 .0) })
+    (λ c. let f = c .before .before .before .before in record { fits = omega (arith, f .before .room .ensures .1 (f .if3 .taken), f .before .before .before .before .before .before .before .good .1 .0 .0) })
     (λ c. search needs)
     (λ c. search needs)
     (λ c.
-    let a = c .before .before .before .before .before .before .before .before .before .before .before .args in
-    let t = tapeOf (a .notes) (a .envelopes .now) (a .marks .now) in
-    ap (λ (l : List ℕ). tape (a .notes .answers + 1) (a .notes .bytes + length (a .bytes .now)) true l (set (a .marks .now) (a .notes .answers) (a .mark))) (c .before .before .put-bytes .ensures)
-    ∙ noted-there (a .bytes .now) (a .mark) t (c .before .before .before .before .before .before .before .if1 .taken) (c .before .before .before .before .before .before .if2 .taken) (sym (c .before .before .before .before .before .room .ensures .0) ∙ c .before .before .before .before .if3 .taken))
-    (λ c.
-    let a = c .before .before .before .before .before .before .before .args in
-    let t = tapeOf (a .notes) (a .envelopes .now) (a .marks .now) in
-    not-noted (a .bytes .now) (a .mark) t
-    (ap₂ (λ (x y : Bool). x && y) (c .before .before .before .if1 .taken) (ap₂ (λ (x y : Bool). x && y) (lt-ltb (a .notes .answers) (length (a .marks .now)) (c .before .before .if2 .taken)) (sym (c .before .room .ensures .0) ∙ c .if3 .left))))
-    (λ c.
-    let a = c .before .before .before .before .before .args in
-    let t = tapeOf (a .notes) (a .envelopes .now) (a .marks .now) in
-    not-noted (a .bytes .now) (a .mark) t
-    (ap₂ (λ (x y : Bool). x && (y && leb (a .notes .bytes + length (a .bytes .now)) (length (a .envelopes .now)))) (c .before .if1 .taken) (le-ltb (a .notes .answers) (length (a .marks .now)) (c .if2 .left))))
-    (λ c.
-    let a = c .before .before .before .before .args in
-    let t = tapeOf (a .notes) (a .envelopes .now) (a .marks .now) in
-    not-noted (a .bytes .now) (a .mark) t
-    (ap (λ (x : Bool). x && (ltb (a .notes .answers) (length (a .marks .now)) && leb (a .notes .bytes + length (a .bytes .now)) (length (a .envelopes .now)))) (c .if1 .left))))
+    let p = c .before .before in
+    let f = p .before .before in
+    rw (p .put-bytes .ensures) (noted-by _ _ _ (f .before .before .before .if1 .taken) (lt-ltb _ _ (f .before .before .if2 .taken)) (sym (f .before .room .ensures .0) ∙ f .if3 .taken)))
+    (λ c. noted-by _ _ _ (c .before .before .before .if1 .taken) (lt-ltb _ _ (c .before .before .if2 .taken)) (sym (c .before .room .ensures .0) ∙ c .if3 .left))
+    (λ c. noted-by _ _ _ (c .before .if1 .taken) (le-ltb _ _ (c .if2 .left)) refl)
+    (λ c. noted-by _ _ _ (c .if1 .left) refl refl))

@@ -1,28 +1,31 @@
 -- `stream::use_up` meets its contract: each turn leaves fewer answers to come before the piece is used up. Assumes nothing.
-use Prim.Native.Nat.{ℕ, _≤_}
-use mathlib.Core.Path.{_≡_, refl, subst, _∙_}
+use Prim.Native.Nat.{_≤_}
 use lib.ListN.{length}
-use Rattle.stream.specs.Private.Inside.{Going, Onward, leftTo}
-use Rattle.stream.specs.Private.Turn.{wayOf, TurnIs}
-use Rattle.stream.specs.declared.Turn.{Turn}
-use Rattle.stream.proofs.Turns.{onward-same, onward-then, onward-over}
+use Rattle.stream.specs.Private.Inside.{leftTo}
+use Rattle.stream.specs.Private.Turn.{wayOf}
+use Rattle.stream.proofs.Turns.{SameLengths, lengths-then, Underway, underway-first, onward-then, turn-on, turn-done}
 use borrow.Author.Needs.{needs}
 use Rattle.stream.proofs.use_up.Statement.{statement}
 use Rattle.stream.proofs.use_up.Tie as tie
 
 abbrev Inv-loop : tie.InvT-loop
 Inv-loop end segment₀ reassembly₀ stream envelopes₀ marks₀ p₀ segment reassembly envelopes marks p =
-    (length segment ≡ length segment₀)
-    × (length reassembly ≡ length reassembly₀)
-    × (length envelopes ≡ length envelopes₀)
-    × (length marks ≡ length marks₀)
-    × Going stream (wayOf p segment reassembly envelopes marks)
-    × (p .taken ≤ end)
-    × (end ≤ length stream)
-    × Onward stream (wayOf p₀ segment₀ reassembly₀ envelopes₀ marks₀) (wayOf p segment reassembly envelopes marks)
+    Underway stream (wayOf p₀ segment₀ reassembly₀ envelopes₀ marks₀) (wayOf p segment reassembly envelopes marks) × (p .taken ≤ end) × (end ≤ length stream)
 
 abbrev μ-loop : tie.MeasureT-loop
 μ-loop end segment₀ reassembly₀ stream envelopes₀ marks₀ p₀ segment reassembly envelopes marks p = leftTo end (wayOf p segment reassembly envelopes marks)
+
+-- ---- where a turn is taken
+
+abbrev taken : tie.After-slice-known8 Inv-loop μ-loop → tie.After-hear Inv-loop μ-loop
+taken k = k .before .before .before .before .before .before .before .before
+
+abbrev from : tie.After-slice-known8 Inv-loop μ-loop → tie.At-loop Inv-loop μ-loop
+from k = taken k .before .before .before .before .before
+
+kept : (k : tie.After-slice-known8 Inv-loop μ-loop) → let a = from k .before .before .before .before .before .before .args in let t = taken k .hear .last .1 .1 in
+    SameLengths (a .segment .now) (a .reassembly .now) (a .envelopes .now) (a .marks .now) (t .0) (t .1 .0) (t .1 .1 .1 .0) (t .1 .1 .1 .1 .0)
+kept k = lengths-then (taken k .hear .kept .1 .1) (from k .loop .inv .0 .lengths)
 
 pub use-up-spec : {M : Type 1} → statement M
 use-up-spec =
@@ -30,48 +33,18 @@ use-up-spec =
     (tie.spec
     Inv-loop
     μ-loop
-    (λ c. (refl, refl, refl, refl, c .before .before .before .before .before .pre .0, c .before .before .before .before .before .pre .1, c .before .before .before .before .before .pre .2, onward-same _ _))
-    (λ c κs. (c .before .before .before .before .loop .inv .4, c .before .before .before .before .loop .inv .5, c .before .before .before .before .loop .inv .6))
+    (λ c. let asked = c .before .before .before .before .before .pre in (underway-first (asked .0), asked .1, asked .2))
+    (λ c κs. let i = c .before .before .before .before .loop .inv in (i .0 .going, i .1, i .2))
     (λ c. search needs)
+    (λ c. turn-on _ (c .before .next .given .1) (taken (c .before .before .before) .hear .ensures) .less)
     (λ c.
-    let l = c .before .before .before .before .before .before .before .before .before .before .before .before .before .before .before .before .loop in
-    let t = c .before .before .before .before .before .before .before .before .before .before .before .hear in
-    let a = c .before .before .before .before .before .before .before .before .before .before .before .before .before .before .before .before .before .before .before .before .before .before .args in
-    let means =
-    subst (λ (y : Turn). TurnIs y (a .end) (a .stream .now) (wayOf (l .p) (l .segment) (l .reassembly) (l .envelopes) (l .marks)) (t .last .1 .1 .0) (t .last .1 .1 .1 .0) (t .last .1 .1 .1 .1 .1 .0) (t .last .1 .1 .1 .1 .1 .1 .0)) (c .before .next .given .1) (t .ensures)
-    in
-    means .less)
-    (λ c.
-    let l = c .before .before .before .before .before .before .before .before .before .before .before .before .before .before .before .before .loop in
-    let t = c .before .before .before .before .before .before .before .before .before .before .before .hear in
-    let a = c .before .before .before .before .before .before .before .before .before .before .before .before .before .before .before .before .before .before .before .before .before .before .args in
-    let means =
-    subst (λ (y : Turn). TurnIs y (a .end) (a .stream .now) (wayOf (l .p) (l .segment) (l .reassembly) (l .envelopes) (l .marks)) (t .last .1 .1 .0) (t .last .1 .1 .1 .0) (t .last .1 .1 .1 .1 .1 .0) (t .last .1 .1 .1 .1 .1 .1 .0)) (c .before .next .given .1) (t .ensures)
-    in
-    (t .kept .1 .1 .0 ∙ l .inv .0, t .kept .1 .1 .1 .0 ∙ l .inv .1, t .kept .1 .1 .1 .1 .1 .0 ∙ l .inv .2, t .kept .1 .1 .1 .1 .1 .1 .0 ∙ l .inv .3, means .going, means .most, l .inv .6, onward-then (l .inv .7) (means .onward)))
+    let k = c .before .before .before in
+    let i = from k .loop .inv in
+    let m = turn-on _ (c .before .next .given .1) (taken k .hear .ensures) in
+    (record { lengths = kept k; going = m .going; onward = onward-then (i .0 .onward) (m .onward) }, m .most, i .2))
     (λ c. search needs)
-    (λ c. c .before .before .before .before .before .before .before .before .before .before .before .hear .kept .1 .1 .0 ∙ c .before .before .before .before .before .before .before .before .before .before .before .before .before .before .before .before .loop .inv .0)
-    (λ c. c .before .before .before .before .before .before .before .before .before .before .before .hear .kept .1 .1 .1 .0 ∙ c .before .before .before .before .before .before .before .before .before .before .before .before .before .before .before .before .loop .inv .1)
-    (λ c. c .before .before .before .before .before .before .before .before .before .before .before .hear .kept .1 .1 .1 .1 .1 .0 ∙ c .before .before .before .before .before .before .before .before .before .before .before .before .before .before .before .before .loop .inv .2)
-    (λ c. c .before .before .before .before .before .before .before .before .before .before .before .hear .kept .1 .1 .1 .1 .1 .1 .0 ∙ c .before .before .before .before .before .before .before .before .before .before .before .before .before .before .before .before .loop .inv .3)
-    (λ c.
-    let l = c .before .before .before .before .before .before .before .before .before .before .before .before .before .before .before .before .loop in
-    let t = c .before .before .before .before .before .before .before .before .before .before .before .hear in
-    let a = c .before .before .before .before .before .before .before .before .before .before .before .before .before .before .before .before .before .before .before .before .before .before .args in
-    let means =
-    subst (λ (y : Turn). TurnIs y (a .end) (a .stream .now) (wayOf (l .p) (l .segment) (l .reassembly) (l .envelopes) (l .marks)) (t .last .1 .1 .0) (t .last .1 .1 .1 .0) (t .last .1 .1 .1 .1 .1 .0) (t .last .1 .1 .1 .1 .1 .1 .0)) (c .before .next2 .given .1) (t .ensures)
-    in
-    record { going = means .going; all = means .all; wants = means .wants; onward = onward-then (l .inv .7) (means .onward) })
-    (λ c. search needs)
-    (λ c. c .before .before .before .before .before .before .before .before .before .before .before .hear .kept .1 .1 .0 ∙ c .before .before .before .before .before .before .before .before .before .before .before .before .before .before .before .before .loop .inv .0)
-    (λ c. c .before .before .before .before .before .before .before .before .before .before .before .hear .kept .1 .1 .1 .0 ∙ c .before .before .before .before .before .before .before .before .before .before .before .before .before .before .before .before .loop .inv .1)
-    (λ c. c .before .before .before .before .before .before .before .before .before .before .before .hear .kept .1 .1 .1 .1 .1 .0 ∙ c .before .before .before .before .before .before .before .before .before .before .before .before .before .before .before .before .loop .inv .2)
-    (λ c. c .before .before .before .before .before .before .before .before .before .before .before .hear .kept .1 .1 .1 .1 .1 .1 .0 ∙ c .before .before .before .before .before .before .before .before .before .before .before .before .before .before .before .before .loop .inv .3)
-    (λ c.
-    let l = c .before .before .before .before .before .before .before .before .before .before .before .before .before .before .before .before .loop in
-    let t = c .before .before .before .before .before .before .before .before .before .before .before .hear in
-    let a = c .before .before .before .before .before .before .before .before .before .before .before .before .before .before .before .before .before .before .before .before .before .before .args in
-    let means =
-    subst (λ (y : Turn). TurnIs y (a .end) (a .stream .now) (wayOf (l .p) (l .segment) (l .reassembly) (l .envelopes) (l .marks)) (t .last .1 .1 .0) (t .last .1 .1 .1 .0) (t .last .1 .1 .1 .1 .1 .0) (t .last .1 .1 .1 .1 .1 .1 .0)) (c .before .c .given .1) (t .ensures)
-    in
-    onward-over (l .inv .7) means))
+    (λ c. kept (c .before .before .before) .0)
+    (λ c. kept (c .before .before .before) .1)
+    (λ c. kept (c .before .before .before) .2)
+    (λ c. kept (c .before .before .before) .3)
+    (λ c. let k = c .before .before .before in turn-done _ _ _ _ _ (from k .loop .inv .0 .onward) (c .before .used .given .1) (taken k .hear .ensures)))

@@ -33,11 +33,10 @@ pub record Answered (stream : List ℕ) (end : ℕ) (w v : Way) : Type 0 where
   pub less : leftTo end v < leftTo end w
   pub onward : Onward stream w v
 
-abbrev pub TurnIs : Turn → ℕ → List ℕ → Way → List ℕ → List ℕ → List ℕ → List ℕ → Type 0
-TurnIs (Turn.On p) end stream w segment reassembly envelopes marks = Answered stream end w (wayOf p segment reassembly envelopes marks)
-TurnIs (Turn.More p) end stream w segment reassembly envelopes marks = PieceUsed stream end w (wayOf p segment reassembly envelopes marks)
-TurnIs (Turn.Stopped c) end stream w segment reassembly envelopes marks = AllHeard c stream w segment reassembly envelopes marks
-
-abbrev pub UsedIs : Used → ℕ → List ℕ → Way → List ℕ → List ℕ → List ℕ → List ℕ → Type 0
+unfoldable pub UsedIs : Used → ℕ → List ℕ → Way → List ℕ → List ℕ → List ℕ → List ℕ → Type 0
 UsedIs (Used.Up p) end stream w segment reassembly envelopes marks = PieceUsed stream end w (wayOf p segment reassembly envelopes marks)
 UsedIs (Used.Stopped c) end stream w segment reassembly envelopes marks = AllHeard c stream w segment reassembly envelopes marks
+
+unfoldable pub TurnIs : Turn → ℕ → List ℕ → Way → List ℕ → List ℕ → List ℕ → List ℕ → Type 0
+TurnIs (Turn.On p) end stream w segment reassembly envelopes marks = Answered stream end w (wayOf p segment reassembly envelopes marks)
+TurnIs (Turn.Done u) end stream w segment reassembly envelopes marks = UsedIs u end stream w segment reassembly envelopes marks
