@@ -2,7 +2,7 @@
 use Prim.Native.Nat.{ℕ}
 use mathlib.Core.Path.{_≡_, refl}
 use mathlib.Core.Bool.{true, false}
-use mathlib.Core.List.{List, [], _∷_, _++_, map}
+use mathlib.Core.List.{[], _∷_, _++_, map}
 use lib.IntN.{pos, negsuc}
 use Rattle.basis.specs.Front.{incomplete, refuses, whole}
 use Rattle.crc.specs.Fold.{run}
@@ -14,7 +14,7 @@ use Rattle.segment.specs.LittleEndian.{leDigits}
 use Rattle.segment.specs.Header.{short, long, headerNumber, numberBytes, headerBytes}
 use Rattle.frame.specs.Header.{headerOf, knownVersion, knownOpcode, hasId, hasWarnings}
 use Rattle.frame.specs.Envelope.{declared, sized, sizeOf, afterId, warningsAt, within, inside, envelope, idIn, bodyIn, warningsIn}
-use Rattle.examples.specs.Example.{seen, Example, header-of, crc24-of, front-of, Shown, begins, check, reads, shown}
+use Rattle.examples.specs.Example.{seen, header-of, crc24-of, front-of, begins, check, reads, shown}
 
 -- whatever the fifteen bytes of P11 are
 pub examples : (b₁ b₂ b₃ b₄ b₅ b₆ b₇ b₈ b₉ b₁₀ b₁₁ b₁₂ b₁₃ b₁₄ b₁₅ : ℕ) →

@@ -1,6 +1,6 @@
 -- A reader of the code whose phase is known: what the definitions say of it by its phase. Assumes nothing.
 use Prim.Native.Nat.{ℕ}
-use mathlib.Core.Path.{_≡_, refl, sym, ap, subst}
+use mathlib.Core.Path.{_≡_, sym, ap, subst}
 use mathlib.Core.List.{List}
 use Rattle.segment.specs.Paper.{paperForm}
 use Rattle.frame_decoder.specs.Reader.{Counts, countsIn, countsOf}

@@ -1,5 +1,5 @@
 -- What is known of a reader that is not refused with 1, and that each step leaves such a reader. Assumes nothing.
-use Prim.Native.Nat.{ℕ, _+_, _-_, _≤_, _<_}
+use Prim.Native.Nat.{ℕ, _+_, _-_, _≤_}
 use mathlib.Core.Path.{_≡_}
 use mathlib.Core.Bool.{Bool, true, false, cond, _&&_}
 use native.Mathlib.Omega.{arith}
@@ -9,7 +9,7 @@ use Rattle.refusal.specs.Refusal.{Refusal}
 use Rattle.types.proofs.Cut.{both-true}
 use Rattle.segment.specs.Header.{Form, Header, headerLength}
 use Rattle.segment.specs.Segment.{maxPayload, segmentLength}
-use Rattle.segment.proofs.HeaderLaid.{head-least, head-most}
+use Rattle.segment.proofs.HeaderLaid.{head-most}
 use Rattle.frame_decoder.specs.Reader.{Phase, inHeader, inRest, inSegment, inReassembly, stopped, Reader, keeping, advanced, pushed, headerPassed, segmentFinished, handedOn, payloadRead, stoppedBy, Counts, counts, countsIn, countsOf, minSegment, maxSegment, minReassembly, maxReassembly, between, inRange, lentFits, payloadFits, countsLie, admissible}
 use Rattle.frame_decoder.specs.Private.Inside.{Lie, Admitted, wanted, Roomy}
 

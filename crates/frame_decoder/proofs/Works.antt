@@ -6,7 +6,7 @@ use mathlib.Core.List.{List, [], _∷_, _++_}
 use native.Mathlib.Nat.{add-zero, min-le-left, min-le-right}
 use native.Mathlib.Omega.{arith}
 use lib.ListN.{length, take, drop, length-drop, take-append-drop}
-use lib.Seq.{length-take-le, drop-drop, drop-length}
+use lib.Seq.{length-take-le, drop-drop}
 use Rattle.refusal.specs.Refusal.{inadmissible}
 use Rattle.types.specs.Write.{put}
 use Rattle.types.proofs.Put.{put-none, put-put, length-put}

@@ -5,20 +5,20 @@ use mathlib.Core.Bool.{Bool, true, false, cond, _&&_}
 use mathlib.Core.List.{List, [], _∷_, _++_}
 use native.Mathlib.Nat.{add-zero}
 use native.Mathlib.Omega.{arith}
-use borrow.Author.Tests.{le-leb, eq-eqb, eqb-true, leb-true}
+use borrow.Author.Tests.{le-leb, eq-eqb, eqb-true}
 use lib.Dec.{leb, eqb}
-use lib.ListN.{length, take, drop, length-append, length-drop}
+use lib.ListN.{length, take, drop}
 use lib.Seq.{length-take-le}
-use Rattle.basis.specs.Front.{Front, incomplete, refuses, whole}
+use Rattle.basis.specs.Front.{Front, incomplete}
 use Rattle.basis.specs.Machine.{Reply, handsOn, asksMore, refusesWith, dated, says, refusedAfter}
 use Rattle.refusal.specs.Refusal.{Refusal, inadmissible}
 use Rattle.types.specs.Write.{put}
 use Rattle.types.proofs.Cut.{both-true}
-use Rattle.segment.specs.Header.{Form, header, headerLength}
-use Rattle.segment.specs.Segment.{Segment, segmentLength, maxPayload, headerAt, payloadAt}
+use Rattle.segment.specs.Header.{Form, header}
+use Rattle.segment.specs.Segment.{Segment, segmentLength, maxPayload, headerAt}
 use Rattle.segment.proofs.Cases.{payload-cut, payload-is}
 use Rattle.frame_decoder.specs.Reader.{Phase, inHeader, inRest, inSegment, inReassembly, stopped, Reader, advanced, pushed, Answer, more, refused, Counts, countsIn, countsOf, minSegment, maxSegment, minReassembly, maxReassembly, between, inRange, lentFits, payloadFits, countsLie, admissible}
-use Rattle.frame_decoder.specs.Settle.{Due, due, waits, Settled, settled, settle}
+use Rattle.frame_decoder.specs.Settle.{Due, due, waits, settled, settle}
 use Rattle.frame_decoder.specs.Call.{Outcome, outcome, stored, work, call}
 use Rattle.frame_decoder.specs.Private.Inside.{Lie, Admitted, wanted, Roomy}
 use Rattle.frame_decoder.proofs.Steps.{between-true, admitted, roomy, pushed-admitted}
@@ -30,7 +30,7 @@ use Rattle.stream.specs.Collect.{saidLength}
 use Rattle.stream.specs.Private.Inside.{lentOf, judging, restAt, rest, Agrees, Untouched, Ready, Wants, ahead}
 use Rattle.stream.proofs.Lists.{take-put}
 use Rattle.stream.proofs.Heads.{header-behind, in-header, roomy-header}
-use Rattle.stream.proofs.Rest.{Speaks, Stops, Waits, Replies, Tells, settle-tells}
+use Rattle.stream.proofs.Rest.{Waits, Replies, Tells, settle-tells}
 
 -- ---- readers that are not refused with 1
 

@@ -1,13 +1,13 @@
 -- Demand 3 as a whole: docs/RULES.md, 10.3. Assumes nothing.
 use Prim.Native.Nat.{ℕ, _+_, _-_, _≤_}
-use mathlib.Core.Path.{_≡_, refl, sym, ap, ap₂, _∙_, subst}
+use mathlib.Core.Path.{_≡_, sym, ap, ap₂, _∙_}
 use mathlib.Core.Bool.{Bool, true, cond}
-use mathlib.Core.List.{List, [], _∷_}
+use mathlib.Core.List.{List, []}
 use native.Mathlib.Omega.{arith}
-use lib.ListN.{length, take}
+use lib.ListN.{length}
 use lib.Seq.{length-take-le}
 use Rattle.basis.specs.Lists.{joined}
-use Rattle.basis.specs.Machine.{Dated, refusedAfter, holding, saying}
+use Rattle.basis.specs.Machine.{Dated, holding}
 use Rattle.types.proofs.BigEndian.{length-part}
 use Rattle.segment.specs.Header.{Form}
 use Rattle.frame_decoder.specs.Reader.{Phase, inHeader, inRest, inSegment, inReassembly, stopped, Counts, countsIn, countsOf, inRange, heldIn, held, admissible}
@@ -22,7 +22,7 @@ use Rattle.stream.specs.Private.Inside.{Ready}
 use Rattle.stream.proofs.Calls.{ready-admissible}
 use Rattle.stream.proofs.Pieces.{heard-all, pieces-do-not-matter, pieces-are-heard}
 use Rattle.stream.proofs.Legal.{legal-means, fits-suffices}
-use Rattle.stream.proofs.Sent.{Comes, sent-comes}
+use Rattle.stream.proofs.Sent.{sent-comes}
 use Rattle.stream.proofs.Turns.{end-saying}
 
 -- a legal stream, the sizes sufficing, is heard as exactly its answers

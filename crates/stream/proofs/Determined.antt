@@ -9,7 +9,6 @@ use Rattle.segment.specs.Header.{Form}
 use Rattle.stream.specs.Caller.{State}
 use Rattle.stream.specs.Collect.{Tape, Ending, refusedEnd, heldEnd, HeardAs}
 use Rattle.stream.specs.Paper.{tapeOf, paperEnd}
-use Rattle.stream.specs.declared.Notes.{Notes}
 use Rattle.stream.specs.declared.End.{End}
 use Rattle.stream.specs.declared.Collected.{Collected}
 use Rattle.stream.proofs.collect.Reads as collects

@@ -1,9 +1,9 @@
 -- Envelopes one after the other: the equations of `envelopesIn`, by what stands at the front. Assumes nothing.
 use Prim.Native.Nat.{ℕ, zero, suc, _+_, _≤_, pred}
-use mathlib.Core.Path.{_≡_, refl, sym, ap, ap₂, _∙_}
+use mathlib.Core.Path.{_≡_, refl, sym, ap, _∙_}
 use mathlib.Core.List.{List, [], _∷_}
 use native.Mathlib.Omega.{arith}
-use lib.ListN.{length, take, drop}
+use lib.ListN.{take, drop}
 use Rattle.basis.specs.Front.{Front, incomplete, refuses, whole}
 use Rattle.basis.specs.Machine.{dated, says, refusedAfter}
 use Rattle.basis.proofs.Fronts.{not-refused}

@@ -4,7 +4,7 @@ use mathlib.Core.Path.{_≡_, refl, sym, ap, ap₂, _∙_, subst}
 use mathlib.Core.Bool.{Bool, true, false, cond}
 use mathlib.Core.List.{List, [], _∷_, _++_, append-assoc, append-nil}
 use native.Mathlib.Decide.{decLe}
-use native.Mathlib.Nat.{add-zero, lt-of-not-le, zero-add}
+use native.Mathlib.Nat.{add-zero, lt-of-not-le}
 use native.Mathlib.Omega.{arith}
 use borrow.Author.Tests.{le-leb, lt-leb}
 use lib.Dec.{leb}
@@ -20,7 +20,7 @@ use Rattle.types.specs.Read.{place}
 use Rattle.types.proofs.BigEndian.{length-part}
 use Rattle.segment.specs.Header.{Form, Header, headerLength}
 use Rattle.segment.specs.Segment.{Segment, segment, segmentLength, headerAt, payloadAt, segmentAt, WholeSegment, Run, no-segment, one-segment}
-use Rattle.segment.proofs.Cases.{payloadIn, Payloads, payload-cut, payload-differs, payload-good, payload-case}
+use Rattle.segment.proofs.Cases.{Payloads, payload-cut, payload-differs, payload-good, payload-case}
 use Rattle.segment.proofs.ReadWritten.{header-found}
 use Rattle.frame.specs.Envelope.{Envelope, envelope}
 use Rattle.frame.proofs.Bounds.{nothing-behind, cut-short}

@@ -1,6 +1,6 @@
 -- Demand 3, the first half: in whatever pieces a stream comes, a caller hears what the whole stream means; and each piece is soon used up. The reader is a machine that keeps the law of
 -- `basis`; all else is said there. Assumes nothing.
-use Prim.Native.Nat.{ℕ, _+_, _-_, _≤_, _<_}
+use Prim.Native.Nat.{ℕ, _+_, _-_, _<_}
 use mathlib.Core.Path.{_≡_, refl, sym, ap, ap₂, _∙_, subst}
 use mathlib.Core.Bool.{Bool, true, false, cond, _&&_}
 use mathlib.Core.List.{List, [], _∷_, _++_}
@@ -11,13 +11,13 @@ use lib.ListN.{length, take}
 use lib.Seq.{length-take-le}
 use Rattle.basis.specs.Front.{Front, incomplete}
 use Rattle.basis.specs.Lists.{joined}
-use Rattle.basis.specs.Machine.{Reply, handsOn, asksMore, refusesWith, Step, refusedAfter, holding, refusedWith, Uses, by-more, by-refusal, after-one, Ends, Hears, all-given, one-used, one-refused}
+use Rattle.basis.specs.Machine.{Step, refusedAfter, holding, refusedWith, by-more, by-refusal, after-one, Ends, Hears, one-used, one-refused}
 use Rattle.basis.proofs.Machine.{Machine, Does, Kept, Lawful, asks-refuses, hands-refuses, same-refusal, ends, Open, heard-is, hears-all}
 use Rattle.refusal.specs.Refusal.{Refusal, inadmissible}
 use Rattle.types.specs.Number.{part}
 use Rattle.types.proofs.Cut.{both-true}
-use Rattle.segment.specs.Header.{Form, header, headerLength}
-use Rattle.segment.specs.Segment.{Segment, segmentLength}
+use Rattle.segment.specs.Header.{Form, header}
+use Rattle.segment.specs.Segment.{Segment}
 use Rattle.segment.proofs.Cases.{payload-cut, payload-is}
 use Rattle.segment.proofs.HeaderLaid.{head-least, head-most}
 use Rattle.frame_decoder.specs.Reader.{Phase, inHeader, inRest, inSegment, inReassembly, stopped, Reader, fresh, Answer, envelopeAt, leftover, more, refused, countsIn, minSegment, maxSegment, minReassembly, maxReassembly, between, inRange, lentFits, payloadFits, countsLie, admissible}
@@ -29,7 +29,7 @@ use Rattle.stream.specs.Meaning.{lent, Said, Held, held, Meaning, segmen
 use Rattle.stream.specs.Caller.{State, state, replyOf, stepOf, reads, holdsBy, holds, start, HearsOf, heardOf, Asked}
 use Rattle.stream.specs.Private.Inside.{lentOf, judging, restAt, rest, Agrees, Untouched, Ready, Wants, ahead}
 use Rattle.stream.proofs.Heads.{in-header, roomy-header, nothing-seen}
-use Rattle.stream.proofs.Calls.{admissible-ready, Told, Called, call-refused, called}
+use Rattle.stream.proofs.Calls.{admissible-ready, Told, call-refused, called}
 use Rattle.stream.proofs.Longer.{asksFor, call-longer, call-joined}
 
 -- ---- a reader that waits for bytes

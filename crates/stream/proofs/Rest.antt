@@ -3,11 +3,11 @@ use Prim.Native.Nat.{ℕ, _+_, _-_, _≤_, _<_}
 use mathlib.Core.Path.{_≡_, refl, sym, ap, ap₂, _∙_, subst}
 use mathlib.Core.Bool.{Bool, true, false, cond}
 use mathlib.Core.List.{List, [], _++_}
-use native.Mathlib.Nat.{zero-add, add-zero, add-assoc}
+use native.Mathlib.Nat.{zero-add, add-zero}
 use native.Mathlib.Omega.{arith}
-use borrow.Author.Tests.{leb-true, leb-false, eqb-true, eqb-false}
+use borrow.Author.Tests.{leb-true, eqb-false}
 use lib.Dec.{leb, eqb}
-use lib.ListN.{length, take, drop, length-append}
+use lib.ListN.{length, take, drop}
 use lib.Seq.{length-take-le}
 use Rattle.basis.specs.Front.{Front, incomplete, refuses, whole, ifWhole}
 use Rattle.basis.specs.Machine.{Reply, handsOn, asksMore, refusesWith, dated, says, refusedAfter}
@@ -17,18 +17,18 @@ use Rattle.types.specs.Read.{place}
 use Rattle.types.specs.Write.{put}
 use Rattle.types.proofs.BigEndian.{length-part}
 use Rattle.types.proofs.Put.{length-put}
-use Rattle.segment.specs.Header.{Form, Header, header, headerLength}
+use Rattle.segment.specs.Header.{Header, header, headerLength}
 use Rattle.segment.specs.Segment.{Segment, segment, segmentLength, headerAt, payloadAt}
 use Rattle.segment.proofs.Cases.{Payloads, payload-cut, payload-differs, payload-good, payload-case}
 use Rattle.segment.proofs.HeaderLaid.{head-most}
 use Rattle.segment.proofs.ReadWritten.{header-found}
 use Rattle.frame.specs.Envelope.{Envelope, envelope}
 use Rattle.frame.proofs.Bounds.{nine-or-more, within-bytes}
-use Rattle.frame_decoder.specs.Reader.{Phase, inHeader, inRest, inSegment, inReassembly, stopped, Reader, headerPassed, segmentFinished, payloadRead, segmentBuffer, reassemblyBuffer, bytesAt, Answer, envelopeAt, leftover, more, refused, countsIn, countsOf, maxReassembly}
+use Rattle.frame_decoder.specs.Reader.{Phase, inHeader, inRest, inSegment, inReassembly, stopped, Reader, headerPassed, segmentFinished, payloadRead, segmentBuffer, reassemblyBuffer, bytesAt, leftover, countsIn, countsOf, maxReassembly}
 use Rattle.frame_decoder.specs.Settle.{Due, due, waits, Settled, settled, refusing, headerDue, leftoverDue, fromSegment, readSegment, movedDown, fromPending, readPending, readAlone, readJoined, received, segmentDue, settleAt, settle}
 use Rattle.frame_decoder.specs.Private.Inside.{Lie, Admitted}
 use Rattle.frame_decoder.proofs.Parts.{part-taken}
-use Rattle.stream.specs.Meaning.{Lent, lent, Said, envelopeOf, leftoverOf, Meaning, behindHeader, segmentIn, envelopesIn, dropping, bySegment, byBeginning, meaningFrom}
+use Rattle.stream.specs.Meaning.{Lent, Said, envelopeOf, leftoverOf, Meaning, behindHeader, envelopesIn, dropping, byBeginning, meaningFrom}
 use Rattle.stream.specs.Caller.{state, replyOf, undelivered}
 use Rattle.stream.specs.Collect.{saidLength}
 use Rattle.stream.specs.Private.Inside.{lentOf, restAt, rest, Agrees}

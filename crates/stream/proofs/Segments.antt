@@ -1,6 +1,6 @@
 -- A stream means what its segments mean, one after the other. Assumes nothing.
 use Prim.Native.Nat.{ℕ, suc, _+_, _≤_, _<_}
-use mathlib.Core.Path.{_≡_, refl, sym, ap, ap₂, _∙_, subst}
+use mathlib.Core.Path.{_≡_, refl, sym, ap, ap₂, _∙_}
 use mathlib.Core.Bool.{Bool, true, false, cond}
 use mathlib.Core.List.{List, [], _∷_, _++_, append-assoc, append-nil}
 use native.Mathlib.Decide.{decLe}
@@ -13,11 +13,11 @@ use lib.Seq.{length-take-le}
 use Rattle.basis.specs.Front.{Front, incomplete, refuses, whole, ifWhole}
 use Rattle.basis.proofs.Fronts.{not-refused, not-whole}
 use Rattle.refusal.specs.Refusal.{Refusal, segmentTooLong}
-use Rattle.segment.specs.Header.{Form, Header, headerLength}
+use Rattle.segment.specs.Header.{Header, headerLength}
 use Rattle.segment.specs.Segment.{Segment, segmentLength, headerAt, payloadAt}
 use Rattle.segment.proofs.Cases.{fieldsAt, Headers, head-cut, head-differs, head-compressed, head-good, header-case, Payloads, payload-cut, payload-differs, payload-good, payload-is, payload-case}
 use Rattle.segment.proofs.HeaderLaid.{head-least}
-use Rattle.stream.specs.Meaning.{Lent, Meaning, behindHeader, segmentIn, byBeginning, meaningFrom}
+use Rattle.stream.specs.Meaning.{Lent, behindHeader, segmentIn, byBeginning, meaningFrom}
 use Rattle.stream.specs.Segments.{lastOf, judgedAt, byFirst, segmentwise}
 use Rattle.stream.proofs.Heads.{header-behind, payload-behind, in-header, by-header, roomy-header}
 

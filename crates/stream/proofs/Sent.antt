@@ -1,20 +1,20 @@
 -- What the writers of this library wrote, packed or in pieces, is legal, and comes back as the fields given. Assumes nothing.
 use Prim.Native.Nat.{ℕ, _+_, _-_, _≤_}
-use mathlib.Core.Path.{_≡_, refl, sym, ap, ap₂, _∙_, subst}
+use mathlib.Core.Path.{_≡_, refl, sym, ap, _∙_, subst}
 use mathlib.Core.Bool.{true}
 use mathlib.Core.List.{List, [], _∷_, _++_, append-assoc, append-nil}
 use native.Mathlib.Decide.{decLe}
 use native.Mathlib.Nat.{zero-add, lt-of-not-le}
 use native.Mathlib.Omega.{arith}
-use lib.ListN.{length, take, drop, length-append, take-append-drop}
-use lib.Seq.{length-take-le, take-length}
+use lib.ListN.{length, take, length-append}
+use lib.Seq.{take-length}
 use Rattle.basis.specs.Front.{incomplete, whole}
 use Rattle.basis.specs.Machine.{Dated}
 use Rattle.types.specs.Write.{joined}
 use Rattle.types.specs.ThereAndBack.{Holds, Stands}
 use Rattle.types.proofs.Holds.{accepted}
 use Rattle.segment.specs.Header.{Form, headerLength}
-use Rattle.segment.specs.Segment.{segmentLength, WholeSegment, Run, no-segment, one-segment}
+use Rattle.segment.specs.Segment.{WholeSegment, Run, no-segment, one-segment}
 use Rattle.frame.specs.Envelope.{Envelope, envelope}
 use Rattle.frame.specs.Write.{envelopeBytes, envelopeCheck}
 use Rattle.frame.specs.ThereAndBack.{ReadBack}

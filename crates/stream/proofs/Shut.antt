@@ -1,18 +1,17 @@
 -- Each reader of `specs/Shut.antt` is shut out: P5 has to come out, then P6, and what is taken and left over are lengths of what was lent. Assumes nothing.
 use Prim.Native.Nat.{ℕ, _+_, _≤_, _<_}
-use mathlib.Core.Path.{_≡_, refl, sym, ap, ap₂, _∙_, subst, fun-ext}
+use mathlib.Core.Path.{_≡_, refl, sym, ap, _∙_, subst, fun-ext}
 use mathlib.Core.Bool.{Bool, true, false, cond}
 use mathlib.Core.List.{List, [], _∷_, _++_, append-nil}
 use native.Mathlib.Nat.{zero-add}
 use native.Mathlib.Omega.{arith}
 use borrow.Author.Tests.{ne-eqb}
-use lib.Dec.{eqb}
 use lib.ListN.{length, drop, replicate}
 use lib.Seq.{take-length}
 use Rattle.basis.specs.Front.{incomplete, whole}
 use Rattle.basis.specs.Lists.{joined}
-use Rattle.basis.specs.Machine.{Reply, handsOn, asksMore, refusesWith, Step, step, Dated, dated, says, refusedAfter, holding, saying, usedUp, Uses, by-more, after-one, Hears, all-given, one-used, one-refused}
-use Rattle.basis.proofs.Machine.{Kept, Does}
+use Rattle.basis.specs.Machine.{handsOn, Step, step, Dated, dated, says, refusedAfter, holding, saying, usedUp, Uses, by-more, after-one, Hears, all-given, one-used, one-refused}
+use Rattle.basis.proofs.Machine.{Does}
 use Rattle.refusal.specs.Refusal.{Refusal}
 use Rattle.types.specs.Number.{be, beFrom}
 use Rattle.types.specs.Read.{Place, place}
@@ -23,11 +22,11 @@ use Rattle.frame.specs.Header.{headerOf, knownVersion, knownOpcode, hasId, hasW
 use Rattle.frame.specs.Envelope.{declared, sized, sizeOf, Envelope, afterId, warningsAt, within, inside, envelope}
 use Rattle.frame_encoder.proofs.Laid.{segment-length}
 use Rattle.frame_decoder.specs.Reader.{Reader, fresh, Buffer, segmentBuffer, Answer, envelopeAt, leftover, more, refused, admissible, inRange}
-use Rattle.frame_decoder.specs.Call.{Outcome, outcome, call}
+use Rattle.frame_decoder.specs.Call.{Outcome, call}
 use Rattle.stream.specs.Meaning.{Lent, lent, Said, envelopeOf, leftoverOf, Meaning, dropping, meaningFrom}
-use Rattle.stream.specs.Caller.{State, state, replyOf, stepOf, reads, holds, start, HearsOf, heardOf, Asked}
+use Rattle.stream.specs.Caller.{State, state, replyOf, stepOf, reads, holds, start, heardOf, Asked}
 use Rattle.stream.specs.Collect.{answersOf}
-use Rattle.stream.specs.Legal.{Message, message, Envelopes, no-envelope, one-envelope, answered, Legal, legal-end, legal-alone, exactly, Suffices}
+use Rattle.stream.specs.Legal.{Message, message, Envelopes, no-envelope, one-envelope, answered, Legal, legal-end, legal-alone, exactly}
 use Rattle.stream.specs.Shut.{Reads, Keeps, machineOf, datesOf, RefusesEverything, NamesOneEnvelope, AsksForever, next, OnlyNods, P5, readingOfP5, P6, readingOfP6}
 use Rattle.stream.proofs.Calls.{admissible-ready, call-refused}
 use Rattle.stream.proofs.Legal.{fits-suffices, segment-first, said-then}

@@ -1,14 +1,14 @@
 -- What the two outputs of `collect` hold where it has written down all: the bytes of the envelopes one after the other, and a mark for each answer, in order. Assumes nothing.
 use Prim.Native.Nat.{ℕ, _+_, _≤_, _<_}
-use mathlib.Core.Path.{_≡_, refl, sym, ap, ap₂, _∙_, subst}
+use mathlib.Core.Path.{_≡_, refl, sym, ap, _∙_, subst}
 use mathlib.Core.Bool.{Bool, true, false, cond, _&&_}
 use mathlib.Core.List.{List, [], _∷_, _++_, map, append-assoc, append-nil}
 use native.Mathlib.Numerals.{add-one}
 use native.Mathlib.Omega.{arith}
 use borrow.Author.Tests.{ltb-true, leb-true}
 use lib.Dec.{leb, ltb}
-use lib.ListN.{length, take, set, length-append, length-set}
-use lib.Seq.{length-take-le, take-suc-set}
+use lib.ListN.{length, take, set, length-set}
+use lib.Seq.{take-suc-set}
 use Rattle.types.specs.Write.{put, joined}
 use Rattle.types.proofs.Cut.{both-true}
 use Rattle.types.proofs.Put.{length-put}

@@ -1,6 +1,6 @@
 -- `refusal::of_number` meets its contract: in each arm the number is known, and behind all arms it is that of no refusal. Assumes nothing.
 use Prim.Native.Nat.{ℕ}
-use mathlib.Core.Path.{_≡_, refl, sym, ap, _∙_}
+use mathlib.Core.Path.{_≡_, sym, ap, _∙_}
 use mathlib.Core.Option.{some}
 use Rattle.refusal.specs.Refusal.{Refusal, refusalNumber, refusals, refusalOf}
 use Rattle.refusal.proofs.Numbers.{refusalOf-number, apart-none}

@@ -1,5 +1,4 @@
 -- `segment::payload_holds` meets its contract: both numbers are those that the rule names. Assumes nothing.
-use Prim.Native.Nat.{ℕ, _+_}
 use mathlib.Core.Path.{ap, ap₂, _∙_}
 use lib.Dec.{eqb}
 use Rattle.crc.specs.Check32.{crc32}

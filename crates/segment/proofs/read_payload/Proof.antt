@@ -1,11 +1,9 @@
 -- `segment::read_payload` meets its contract: each test is that of one case. Assumes nothing.
-use Prim.Native.Nat.{ℕ, _+_, _<_, _≤_}
-use mathlib.Core.Path.{_≡_, sym, ap, _∙_, subst}
-use mathlib.Core.Bool.{Bool}
+use Prim.Native.Nat.{ℕ, _+_}
+use mathlib.Core.Path.{_≡_, sym, ap, _∙_}
 use mathlib.Core.List.{List}
 use native.Mathlib.Omega.{arith}
 use lib.Dec.{eqb}
-use lib.ListN.{length}
 use Rattle.crc.specs.Check32.{crc32}
 use Rattle.types.specs.Number.{part}
 use Rattle.segment.specs.LittleEndian.{le}

@@ -5,7 +5,7 @@ use native.Mathlib.Nat.{zero-add}
 use native.Mathlib.Omega.{arith}
 use Rattle.segment.specs.Paper.{paperForm}
 use Rattle.segment.proofs.HeaderLaid.{head-most}
-use Rattle.frame_decoder.specs.Reader.{Counts, heldIn}
+use Rattle.frame_decoder.specs.Reader.{heldIn}
 use Rattle.frame_decoder.specs.Paper.{paperReader}
 use Rattle.frame_decoder.specs.Private.Inside.{Lie}
 use Rattle.frame_decoder.proofs.Steps.{admitted}

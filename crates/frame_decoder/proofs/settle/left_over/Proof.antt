@@ -1,5 +1,4 @@
 -- `frame_decoder::settle::left_over` meets its contract: nothing, or that much. Assumes nothing.
-use Prim.Native.Nat.{ℕ}
 use mathlib.Core.Path.{sym, ap, _∙_}
 use mathlib.Core.Bool.{Bool, cond}
 use borrow.Author.Tests.{eq-eqb, ne-eqb}

@@ -1,5 +1,5 @@
 -- `frame_decoder::settle::received` meets its contract: 6 or the payload where it stands, or what joins the pending bytes. Assumes nothing.
-use Prim.Native.Nat.{ℕ, _+_}
+use Prim.Native.Nat.{ℕ}
 use mathlib.Core.Path.{_≡_, sym, ap, _∙_}
 use mathlib.Core.Bool.{Bool, true, false, cond}
 use mathlib.Core.List.{List}
@@ -10,7 +10,6 @@ use Rattle.refusal.specs.Refusal.{unexpectedSelfContained}
 use Rattle.types.specs.Number.{part}
 use Rattle.types.proofs.BigEndian.{part-of}
 use Rattle.segment.specs.Header.{headerLength}
-use Rattle.segment.specs.Paper.{paperForm}
 use Rattle.frame_decoder.specs.Reader.{Reader, segmentFinished}
 use Rattle.frame_decoder.specs.Settle.{Due, settled, refusing, readSegment, readAlone, received, readJoined}
 use Rattle.frame_decoder.specs.Paper.{paperReader}

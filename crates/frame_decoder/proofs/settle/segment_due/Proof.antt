@@ -1,9 +1,7 @@
 -- `frame_decoder::settle::segment_due` meets its contract: by what the segment is read as. Assumes nothing.
-use Prim.Native.Nat.{ℕ, _+_}
 use mathlib.Core.Path.{sym, ap, _∙_}
-use mathlib.Core.List.{List}
 use native.Mathlib.Omega.{arith}
-use lib.ListN.{length, take}
+use lib.ListN.{take}
 use lib.Seq.{length-take-le}
 use Rattle.segment.specs.Header.{header}
 use Rattle.segment.specs.Segment.{behind}

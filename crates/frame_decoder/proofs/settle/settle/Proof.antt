@@ -1,5 +1,4 @@
 -- `frame_decoder::settle::settle` meets its contract: by phase. Assumes nothing.
-use Prim.Native.Nat.{ℕ, _+_}
 use mathlib.Core.Path.{ap, _∙_}
 use native.Mathlib.Omega.{arith}
 use lib.ListN.{length}

@@ -1,5 +1,5 @@
 -- `frame_decoder::work::fill_up` meets its contract: as much as is wanted and there. Assumes nothing.
-use Prim.Native.Nat.{ℕ, _+_, _-_}
+use Prim.Native.Nat.{_-_}
 use mathlib.Core.Path.{sym}
 use native.Mathlib.Omega.{arith}
 use lib.Seq.{length-take-le}

@@ -1,10 +1,8 @@
 -- `frame_decoder::work::pushed` meets its contract: by phase; where no byte is wanted none is taken. Assumes nothing.
-use Prim.Native.Nat.{ℕ, _+_, _-_, _≤_}
+use Prim.Native.Nat.{ℕ, _-_, _≤_}
 use mathlib.Core.Path.{_≡_, sym, ap, _∙_}
 use native.Mathlib.Omega.{arith}
-use Rattle.segment.specs.Paper.{paperForm}
-use Rattle.segment.proofs.HeaderLaid.{head-most}
-use Rattle.frame_decoder.specs.Reader.{Reader, inPhase, advanced, pushed, Counts, countsOf, maxSegment}
+use Rattle.frame_decoder.specs.Reader.{inPhase, advanced, pushed, Counts, countsOf, maxSegment}
 use Rattle.frame_decoder.specs.Paper.{paperPhase, paperReader}
 use Rattle.frame_decoder.specs.Private.Inside.{wanted}
 use Rattle.frame_decoder.specs.declared.Phase.{Phase}

@@ -1,5 +1,5 @@
 -- `frame_decoder::work::work` meets its contract: turns that mean the same as the call did at its start; each takes a byte, so they end. Assumes nothing.
-use Prim.Native.Nat.{ℕ, _-_, _≤_}
+use Prim.Native.Nat.{_-_, _≤_}
 use mathlib.Core.Path.{_≡_, refl, subst, _∙_}
 use native.Mathlib.Omega.{arith}
 use lib.ListN.{length, drop}
