@@ -8,7 +8,7 @@ ghost use Rattle.types.specs.Number.{part};
 ghost use Rattle.segment.specs.Header.{headerLength, header as fieldsAre};
 ghost use Rattle.segment.specs.Segment.{maxPayload, segmentLength, headerAt, payloadAt};
 ghost use Rattle.segment.specs.Paper.{paperForm, paperHeader};
-ghost use Rattle.frame_decoder.specs.Settle.{settled, refusing, headerDue, leftoverDue, readSegment, movedDown, readPending, readJoined, received, segmentDue, settle};
+ghost use Rattle.frame_decoder.specs.Settle.{settled, refusing, headerDue, leftoverDue, readSegment, movedDown, readPending, readJoined, segmentDue, settle};
 ghost use Rattle.frame_decoder.specs.Paper.{paperReader};
 ghost use Rattle.frame_decoder.specs.Private.Inside.{paperDue, Admitted};
 use crate::Answer;
@@ -169,31 +169,6 @@ fn append(m: FrameDecoder, payload: &[u8], reassembly: &mut [u8]) -> Due
     refuse(m, Refusal::ReassemblyTooShort)
 }
 
-// A segment whose check holds: 6, or its payload is read where it stands; or it joins the pending bytes.
-fn received(
-    m: FrameDecoder,
-    segment: &[u8],
-    reassembly: &mut [u8],
-    len: usize,
-    self_contained: bool,
-) -> Due
-    requires { ⌜ (segmentLength (paperForm (m .form)) len ≤ length (now segment)) × (m .pending ≤ length (now reassembly)) ⌝ }
-    ensures { λ r. ⌜ settled (paperDue r) (now (reassembly .exit)) ≡ received (paperReader m) (now (segment .entry)) (now (reassembly .entry)) len «self_contained» (part (now (segment .entry)) (headerLength (paperForm (m .form))) len) ⌝ }
-{
-    if self_contained {
-        let pending = m.pending;
-        if pending == 0 {
-            let alone = m.in_phase(Phase::InSegment { len, at: 0 });
-            return from_segment(alone, segment, len, 0);
-        }
-        return refuse(m, Refusal::UnexpectedSelfContained);
-    }
-    let form = m.form;
-    let start = header_len(form);
-    let end = start + len;
-    append(m, &segment[start..end], reassembly)
-}
-
 // So many bytes of a segment are there whose header has passed: 5, then 6 or 7.
 fn segment_due(
     m: FrameDecoder,
@@ -214,7 +189,19 @@ fn segment_due(
     };
     match read_payload(form, &segment[..filled], header) {
         ReadPayload::Incomplete => Due::Waits(m),
-        ReadPayload::Whole => received(m, segment, reassembly, len, self_contained),
+        ReadPayload::Whole => {
+            if self_contained {
+                let pending = m.pending;
+                if pending == 0 {
+                    let alone = m.in_phase(Phase::InSegment { len, at: 0 });
+                    return from_segment(alone, segment, len, 0);
+                }
+                return refuse(m, Refusal::UnexpectedSelfContained);
+            }
+            let start = header_len(form);
+            let end = start + len;
+            append(m, &segment[start..end], reassembly)
+        }
         ReadPayload::Refused(e) => refuse(m, e),
     }
 }

@@ -1,5 +1,5 @@
 -- `frame_decoder::settle::settle` meets its contract: by phase. Assumes nothing.
-use mathlib.Core.Path.{ap, _∙_}
+use mathlib.Core.Path.{refl, ap}
 use native.Mathlib.Omega.{arith}
 use lib.ListN.{length}
 use Rattle.segment.specs.Paper.{paperForm}
@@ -43,18 +43,18 @@ settle-spec =
     (λ c. search needs)
     (λ c.
     let a = c .before .before .before .before .before .before .args in
-    ap (λ (d : Due). settled d (a .reassembly .now)) (c .header-due .ensures) ∙ settles-by (a .m) (c .before .before .phase .given .1) (a .segment .now) (a .reassembly .now))
+    settles-by (a .m) (c .before .before .phase .given .1) (a .segment .now) (a .reassembly .now) (ap (λ (d : Due). settled d (a .reassembly .now)) (c .header-due .ensures)))
     (λ c. search needs)
     (λ c.
     let a = c .before .before .before .before .before .before .before .before .before .args in
-    c .before .before .segment-due .ensures ∙ settles-by (a .m) (c .before .before .before .before .before .phase2 .given .1) (a .segment .now) (a .reassembly .now))
+    settles-by (a .m) (c .before .before .before .before .before .phase2 .given .1) (a .segment .now) (a .reassembly .now) (c .before .before .segment-due .ensures))
     (λ c.
     let a = c .before .before .before .before .before .before .args in
-    ap (λ (d : Due). settled d (a .reassembly .now)) (c .from-segment .ensures) ∙ settles-by (a .m) (c .before .before .phase3 .given .1) (a .segment .now) (a .reassembly .now))
+    settles-by (a .m) (c .before .before .phase3 .given .1) (a .segment .now) (a .reassembly .now) (ap (λ (d : Due). settled d (a .reassembly .now)) (c .from-segment .ensures)))
     (λ c. search needs)
     (λ c.
     let a = c .before .before .before .before .before .before .before .before .before .args in
-    c .before .before .from-pending .ensures ∙ settles-by (a .m) (c .before .before .before .before .before .phase4 .given .1) (a .segment .now) (a .reassembly .now))
+    settles-by (a .m) (c .before .before .before .before .before .phase4 .given .1) (a .segment .now) (a .reassembly .now) (c .before .before .from-pending .ensures))
     (λ c.
     let a = c .before .before .before .before .before .args in
-    settles-by (a .m) (c .before .phase5 .given .1) (a .segment .now) (a .reassembly .now)))
+    settles-by (a .m) (c .before .phase5 .given .1) (a .segment .now) (a .reassembly .now) refl))
