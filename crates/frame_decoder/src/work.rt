@@ -87,20 +87,13 @@ fn pushed(m: FrameDecoder, k: usize) -> FrameDecoder
     }
 }
 
-struct Filled {
-    reader: FrameDecoder,
-    took: usize,
-}
-
-// Takes what is still to come of the header or the segment, as far as the bytes go.
-fn fill(m: FrameDecoder, segment: &mut [u8], bytes: &[u8]) -> Filled
+// Takes what is still to come of the header or the segment, as far as the bytes go, and answers how many.
+fn fill(m: FrameDecoder, segment: &mut [u8], bytes: &[u8]) -> usize
     requires { ⌜ Roomy (length (now segment)) (countsOf (paperReader m)) × (length (now segment) ≤ maxSegment) ⌝ }
     ensures { λ r. ⌜ FilledIs r (paperReader m) (now (segment .entry)) (now (segment .exit)) (now (bytes .entry)) ⌝ }
 {
     let filled = m.filled();
-    let took = fill_up(segment, filled, goal(m), bytes);
-    let reader = pushed(m, took);
-    Filled { reader, took }
+    fill_up(segment, filled, goal(m), bytes)
 }
 
 // What one turn leaves: the call's step, or a reader to go on with and how many bytes were taken so far.
@@ -126,10 +119,9 @@ fn take_turn(
             if taken == piece.len() {
                 return Turn::Done(step(reader, Answer::More, taken));
             }
-            let filled = fill(reader, segment, &piece[taken..]);
-            let next = taken + filled.took;
-            let grown = filled.reader;
-            Turn::On(grown, next)
+            let took = fill(reader, segment, &piece[taken..]);
+            let next = taken + took;
+            Turn::On(pushed(reader, took), next)
         }
     }
 }

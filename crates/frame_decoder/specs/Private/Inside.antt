@@ -6,7 +6,7 @@ use mathlib.Core.List.{List}
 use lib.ListN.{length, take, drop}
 use Rattle.segment.specs.Header.{Form}
 use Rattle.segment.specs.Segment.{maxPayload, segmentLength}
-use Rattle.frame_decoder.specs.Reader.{Reader, pushed, Counts, countsOf, minSegment, maxSegment, maxReassembly}
+use Rattle.frame_decoder.specs.Reader.{Reader, Counts, countsOf, minSegment, maxSegment, maxReassembly}
 use Rattle.frame_decoder.specs.Settle as settling
 use Rattle.frame_decoder.specs.Call.{stored, work}
 use Rattle.frame_decoder.specs.Paper.{paperReader, paperAnswer, paperStep}
@@ -14,7 +14,6 @@ use Rattle.frame_decoder.specs.declared.FrameDecoder as code-decoder
 use Rattle.frame_decoder.specs.declared.Answer as code-answer
 use Rattle.frame_decoder.specs.declared.Step.{Step}
 use Rattle.frame_decoder.specs.declared.settle.Due.{Due}
-use Rattle.frame_decoder.specs.declared.work.Filled.{Filled}
 use Rattle.frame_decoder.specs.declared.work.Turn.{Turn}
 
 abbrev pub paperDue : Due → settling.Due
@@ -50,10 +49,9 @@ abbrev pub Roomy : ℕ → Counts → Type 0
 Roomy room c = (c .there ≤ c .goal) × (c .goal ≤ room)
 
 -- what filling did: as many bytes as were wanted and there, each at its place
-pub record FilledIs (r : Filled) (m : Reader) (segment left bytes : List ℕ) : Type 0 where
-  pub count : r .took ≡ min (wanted (countsOf m)) (length bytes)
-  pub reader : paperReader (r .reader) ≡ pushed (r .took) m
-  pub buffer : left ≡ stored m segment (take (r .took) bytes)
+pub record FilledIs (took : ℕ) (m : Reader) (segment left bytes : List ℕ) : Type 0 where
+  pub count : took ≡ min (wanted (countsOf m)) (length bytes)
+  pub buffer : left ≡ stored m segment (take took bytes)
 
 -- a call that goes on from there with the rest of the piece, and means the same
 pub record Onward (taken : ℕ) (r : Reader) (segment reassembly piece : List ℕ) (next : ℕ) (x : Reader) (segment′ reassembly′ : List ℕ) : Type 0 where

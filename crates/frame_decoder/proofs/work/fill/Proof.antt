@@ -1,7 +1,6 @@
 -- `frame_decoder::work::fill` meets its contract: up to the end of the header or of the segment. Assumes nothing.
 use Prim.Native.Nat.{ℕ, _-_, min}
 use mathlib.Core.Path.{ap, ap₂, _∙_}
-use native.Mathlib.Nat.{min-le-left}
 use native.Mathlib.Omega.{arith}
 use lib.ListN.{length, take}
 use Rattle.types.specs.Write.{put}
@@ -18,20 +17,12 @@ fill-spec =
     (λ c κs.
     let pre = c .before .before .before .before .before .pre in
     (omega (arith, pre .0 .0, c .goal .ensures, c .before .before .filled .ensures), omega (arith, pre .0 .1, c .goal .ensures)))
-    (λ c κs.
-    let start = c .before .before .before .before .before .before .before .before in
-    let there = c .before .before .before .before .before .filled in
-    let goal = c .before .before .before .goal in
-    let took = c .before .before .fill-up in
-    (omega (arith, took .ensures .0, there .ensures, goal .ensures, min-le-left (goal .result - there .result) (length (start .args .bytes .now))), omega (arith, start .pre .0 .1, start .pre .1)))
     (λ c. search needs)
     (λ c.
-    let a = c .before .before .before .before .before .before .before .before .before .args in
-    let there = c .before .before .before .before .before .before .filled in
-    let goal = c .before .before .before .before .goal in
-    let took = c .before .before .before .fill-up in
+    let took = c .before .before in
+    let there = took .before .before .before in
+    let a = there .before .before .before .args in
     record {
-      count = took .ensures .0 ∙ ap₂ (λ (g t : ℕ). min (g - t) (length (a .bytes .now))) (goal .ensures) (there .ensures);
-      reader = c .pushed .ensures;
-      buffer = took .ensures .1 ∙ ap (λ (t : ℕ). put (a .segment .now) t (take (took .result) (a .bytes .now))) (there .ensures);
+      count = took .fill-up .ensures .0 ∙ ap₂ (λ (g t : ℕ). min (g - t) (length (a .bytes .now))) (took .before .goal .ensures) (there .filled .ensures);
+      buffer = took .fill-up .ensures .1 ∙ ap (λ (t : ℕ). put (a .segment .now) t (take (took .fill-up .result) (a .bytes .now))) (there .filled .ensures);
     }))
