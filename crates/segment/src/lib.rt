@@ -1,14 +1,10 @@
 // A segment's header in its two forms (the v5 document, Framing), fields and bytes, and the payload behind it.
 ghost use mathlib.Core.Path.{_≡_};
 ghost use mathlib.Core.Bool.{cond};
-ghost use Prim.Native.Nat.{_+_, _≤_};
-ghost use lib.Dec.{eqb};
+ghost use Prim.Native.Nat.{_≤_};
 ghost use lib.ListN.{length};
-ghost use Rattle.crc.specs.Check32.{crc32};
-ghost use Rattle.types.specs.Number.{part};
-ghost use Rattle.segment.specs.LittleEndian.{le};
 ghost use Rattle.segment.specs.Header.{numberLength, headerLength, selfWeight, uncompressedOf, uncompressedPart, fieldsOf, headerNumber};
-ghost use Rattle.segment.specs.Segment.{trailerLength, checked, headerAt, behind, payloadAt};
+ghost use Rattle.segment.specs.Segment.{checked, headerAt, behind, payloadAt};
 ghost use Rattle.segment.specs.Paper.{paperForm, paperHeader, paperReadHeader, paperReadPayload};
 use crc::crc24;
 use crc::crc32;
@@ -159,27 +155,18 @@ pub fn read_header(form: Form, bytes: &[u8]) -> ReadHeader
     ReadHeader::Refused(Refusal::HeaderCheckDiffers)
 }
 
-// The check behind a payload is that of its bytes.
-fn payload_holds(bytes: &[u8], start: usize, len: usize) -> bool
-    requires { ⌜ start + len + trailerLength ≤ length (now bytes) ⌝ }
-    ensures { λ r. ⌜ r ≡ eqb (le (part (now (bytes .entry)) (start + len) trailerLength)) (crc32 (part (now (bytes .entry)) start len)) ⌝ }
-{
-    let end = start + len;
-    let computed = crc32(&bytes[start..end]);
-    let read = inner::read_number(bytes, end, TRAILER_LEN);
-    read == computed as u64
-}
-
 // The payload behind a header that has passed, judged: 5.
 pub fn read_payload(form: Form, bytes: &[u8], header: Header) -> ReadPayload
     ensures { λ r. ⌜ paperReadPayload r (behind (paperForm form) (now (bytes .entry)) (paperHeader header)) ≡ payloadAt (paperForm form) (now (bytes .entry)) (paperHeader header) ⌝ }
 {
     let start = header_len(form);
-    let len = header.payload as usize;
-    if bytes.len() < start + len + TRAILER_LEN {
+    let end = start + header.payload as usize;
+    if bytes.len() < end + TRAILER_LEN {
         return ReadPayload::Incomplete;
     }
-    if payload_holds(bytes, start, len) {
+    let computed = crc32(&bytes[start..end]);
+    let read = inner::read_number(bytes, end, TRAILER_LEN);
+    if read == computed as u64 {
         return ReadPayload::Whole;
     }
     ReadPayload::Refused(Refusal::PayloadCheckDiffers)
