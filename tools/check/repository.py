@@ -84,6 +84,23 @@ def edits(crate):
             yield Edit(crate, folder, path.stem, path)
 
 
+def edited_file(edit):
+    return next((line[6:] for line in edit.path.read_text().splitlines() if line.startswith("file: ")), None)
+
+
+# A file's text after an edit, and what is wrong with the edit, if anything: each old text has to stand there once.
+def applied(edit, text):
+    old = None
+    for line in edit.path.read_text().splitlines():
+        if line.startswith("old: "):
+            old = line[5:]
+        elif line.startswith("new: "):
+            if old is None or text.count(old) != 1:
+                return text, "its old text does not stand there once"
+            text, old = text.replace(old, line[5:]), None
+    return text, None if old is None else "an old text without a new one"
+
+
 def cells(line):
     return [cell.strip() for cell in line.strip().strip("|").split("|")]
 
