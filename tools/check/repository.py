@@ -6,6 +6,7 @@ from collections import namedtuple
 
 ROOT = pathlib.Path(__file__).resolve().parents[2]
 CRATES = ROOT / "crates"
+STATEMENTS = "docs/STATEMENTS.md"
 
 # A public function: the modules that a caller names it by, the type that it belongs to, where it stands, and the text up to its body.
 Function = namedtuple("Function", "crate modules kind name file line signature ensures requires")
@@ -117,6 +118,12 @@ def spans(text):
 def sections(page, mark="## "):
     parts = re.split(rf"^{mark}(.*)$", read(page), flags=re.M)
     return dict(zip(parts[1::2], parts[2::2]))
+
+
+# The crates whose functions promise less, from the list of exceptions: each item names one and gives a reason.
+def unpromised():
+    items = re.findall(r"^- `crates/(\w+)`(.*?)(?=^- |^$)", sections(STATEMENTS).get("Without a line", ""), re.M | re.S)
+    return {crate for crate, reason in items if len(reason.split()) > 6}
 
 
 # The paragraphs, rows and list items of a page, each with its first line's number; what is shown as code is left out.
