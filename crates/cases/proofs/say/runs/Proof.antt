@@ -1,16 +1,17 @@
 -- `cases::say::runs` is safe and ends: a run starts where or before it is looked at. Assumes nothing.
 use Prim.Native.Nat.{_≤_, _-_}
 use mathlib.Core.Logic.{⊎-elim}
+use borrow.Author.Needs.{needs}
 use native.Mathlib.Omega.{arith}
 use lib.ListN.{length}
 use Rattle.cases.proofs.say.runs.Statement.{statement}
 use Rattle.cases.proofs.say.runs.Tie as tie
 
 abbrev Inv-loop : tie.InvT-loop
-Inv-loop bytes start₀ i₀ start i = start ≤ i
+Inv-loop page₀ bytes said₀ start₀ i₀ page said start i = start ≤ i
 
 abbrev μ-loop : tie.MeasureT-loop
-μ-loop bytes start₀ i₀ start i = length bytes - i
+μ-loop page₀ bytes said₀ start₀ i₀ page said start i = length bytes - i
 
 pub runs-spec : {M : Type 1} → statement M
 runs-spec =
