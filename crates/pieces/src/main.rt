@@ -169,6 +169,7 @@ fn answer(page: &mut Page, out: Out, line: &[u8], items: &mut [usize], bytes: &m
     )
 }
 
+// The lines behind one whose answer can't be written are not answered.
 fn answer_all(
     page: &mut Page,
     out: Out,
@@ -182,6 +183,9 @@ fn answer_all(
         let line = words::line(input, start);
         let answered = answer(page, said, line, items, bytes);
         said = say::end_line(page, answered);
+        if !said.sound {
+            return said;
+        }
         start += line.len() + 1;
     }
     said
