@@ -3,7 +3,7 @@ use crate::tell;
 use crate::words::Number;
 use libc::STDIN_FILENO;
 
-// What a read brought: so many bytes at the front of the buffer, or the input's end.
+// What a read brought: so many bytes at the front of the buffer, the input's end, or a failure.
 pub enum Piece {
     Bytes(usize),
     End,

@@ -15,18 +15,18 @@ use segment::Form;
 // How long both buffers are (12.1).
 const BUFFER_LEN: usize = 65_536;
 
+// A number that ends its line.
+fn say_number(page: &mut Page, out: Out, before: &[u8], n: usize) -> Out {
+    let said = say::number(page, out, before, n);
+    say::end_line(page, said)
+}
+
 fn say_envelope(page: &mut Page, out: Out, envelope: Envelope) -> Out {
     let header = envelope.header;
     let body = envelope.body;
     let begun = say::text(page, out, b"env");
     let headed = say::header(page, begun, header);
     say_number(page, headed, b" ", body.len)
-}
-
-// A number that ends its line.
-fn say_number(page: &mut Page, out: Out, before: &[u8], n: usize) -> Out {
-    let said = say::number(page, out, before, n);
-    say::end_line(page, said)
 }
 
 fn say_answer(page: &mut Page, out: Out, answer: Answer) -> Out {
