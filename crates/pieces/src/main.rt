@@ -1,4 +1,5 @@
-// Gives the stream of each line of standard input to a reader in pieces, and writes what was written down of it, a line for a line. README.md beside src/ has the shape of a line.
+// Gives the stream of each line of standard input to a reader in pieces, and writes what was written down of it, a line for a line. README.md beside src/
+// has the shape of a line.
 use cases::input;
 use cases::say;
 use cases::say::Out;
