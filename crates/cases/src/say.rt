@@ -16,7 +16,7 @@ pub struct Out {
     pub sound: bool,
 }
 
-pub fn new_page() -> [u8; PAGE_LEN] {
+pub fn new_page() -> Page {
     [0; PAGE_LEN]
 }
 

@@ -1,7 +1,6 @@
 -- `cases::say::runs` is safe and ends: a run starts where or before it is looked at. Assumes nothing.
 use Prim.Native.Nat.{_≤_, _-_}
 use mathlib.Core.Logic.{⊎-elim}
-use borrow.Author.Needs.{needs}
 use native.Mathlib.Omega.{arith}
 use lib.ListN.{length}
 use Rattle.cases.proofs.say.runs.Statement.{statement}

@@ -1,6 +1,5 @@
 -- `cases::say::text` is safe and ends: the words are counted. Assumes nothing.
 use Prim.Native.Nat.{_-_}
-use borrow.Author.Needs.{needs}
 use native.Mathlib.Omega.{arith}
 use lib.ListN.{length}
 use Rattle.cases.proofs.say.text.Statement.{statement}
