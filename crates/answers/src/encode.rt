@@ -2,6 +2,9 @@
 use crate::asked;
 use crate::outcome;
 use crate::room;
+use cases::say;
+use cases::say::Out;
+use cases::say::Page;
 use cases::words;
 use frame::Direction;
 use frame::Header;
@@ -45,40 +48,58 @@ fn header(line: &[u8]) -> Header {
     }
 }
 
-fn write_asked(line: &[u8], id: &[u8], text: &[u8], lens: &[usize], body: &[u8]) {
-    let mut out = room::out();
-    let answer = write::write_envelope(&mut out, header(line), id, text, lens, body);
-    outcome::written(answer, &out);
+fn write_asked(
+    page: &mut Page,
+    out: Out,
+    line: &[u8],
+    id: &[u8],
+    text: &[u8],
+    lens: &[usize],
+    body: &[u8],
+) -> Out {
+    let mut output = room::output();
+    let answer = write::write_envelope(&mut output, header(line), id, text, lens, body);
+    outcome::written(page, out, answer, &output)
 }
 
-fn with_text(line: &[u8], id: &[u8], text: &[u8], body: &[u8]) -> bool {
+fn with_text(page: &mut Page, out: Out, line: &[u8], id: &[u8], text: &[u8], body: &[u8]) -> Out {
     let mut items = room::items();
     let n = asked::lengths(line, 8, &mut items);
     if asked::MOST < n {
-        return false;
+        return say::no_case(page, out);
     }
-    write_asked(line, id, text, words::front_items(&items, n), body);
-    true
+    write_asked(
+        page,
+        out,
+        line,
+        id,
+        text,
+        words::front_items(&items, n),
+        body,
+    )
 }
 
-fn with_id(line: &[u8], id: &[u8], body: &[u8]) -> bool {
+fn with_id(page: &mut Page, out: Out, line: &[u8], id: &[u8], body: &[u8]) -> Out {
     let mut text = room::bytes();
     let n = asked::bytes(line, 7, &mut text);
     if asked::MOST < n {
-        return false;
+        return say::no_case(page, out);
     }
-    with_text(line, id, words::front(&text, n), body)
+    with_text(page, out, line, id, words::front(&text, n), body)
 }
 
-fn with_header(line: &[u8], body: &[u8]) -> bool {
+fn with_header(page: &mut Page, out: Out, line: &[u8], body: &[u8]) -> Out {
     let mut id = room::bytes();
     let n = asked::bytes(line, 6, &mut id);
     if asked::MOST < n {
-        return false;
+        return say::no_case(page, out);
     }
-    with_id(line, words::front(&id, n), body)
+    with_id(page, out, line, words::front(&id, n), body)
 }
 
-pub fn answer(line: &[u8], body: &[u8]) -> bool {
-    is_asked(line) && with_header(line, body)
+pub fn answer(page: &mut Page, out: Out, line: &[u8], body: &[u8]) -> Out {
+    if is_asked(line) {
+        return with_header(page, out, line, body);
+    }
+    say::no_case(page, out)
 }

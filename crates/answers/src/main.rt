@@ -1,7 +1,10 @@
 // Answers what each line of standard input asks, a line for a line. README.md beside src/ has the shapes of a line.
+use cases::input;
 use cases::say;
+use cases::say::Out;
+use cases::say::Page;
 use cases::words;
-use libc::STDIN_FILENO;
+use cases::words::Number;
 
 mod asked;
 mod encode;
@@ -13,48 +16,55 @@ mod segments;
 mod streams;
 mod writes;
 
-// Each list of names is short, so that no function has many cases.
-fn answer_bytes(name: &[u8], bytes: &[u8]) -> bool {
-    envelope::answer(name, bytes) || notations::answer(name, bytes) || writes::answer(name, bytes)
-}
-
-fn answer_three(line: &[u8], bytes: &[u8]) -> bool {
+fn answer_three(page: &mut Page, out: Out, line: &[u8], bytes: &[u8]) -> Out {
     if words::same(words::field(line, b' ', 0), b"pack") {
-        return segments::pack(line, bytes);
+        return segments::pack(page, out, line, bytes);
     }
-    streams::answer(line, bytes)
+    streams::answer(page, out, line, bytes)
 }
 
-fn answer_with(line: &[u8], bytes: &[u8]) -> bool {
+// Each list of names is short, so that no function has many cases.
+fn answer_with(page: &mut Page, out: Out, line: &[u8], bytes: &[u8]) -> Out {
     match words::count(line, b' ') {
-        1 => answer_bytes(words::field(line, b' ', 0), bytes),
-        2 => answer_three(line, bytes),
-        9 => encode::answer(line, bytes),
-        _ => false,
+        1 => envelope::answer(page, out, words::field(line, b' ', 0), bytes),
+        2 => answer_three(page, out, line, bytes),
+        9 => encode::answer(page, out, line, bytes),
+        _ => say::no_case(page, out),
     }
 }
 
-// Whether the line was a case. The last word of each is some bytes.
-fn answer(line: &[u8]) -> bool {
+// The last word of each case is some bytes.
+fn answer(page: &mut Page, out: Out, line: &[u8]) -> Out {
     let mut bytes = room::bytes();
     let n = asked::bytes(line, words::count(line, b' '), &mut bytes);
     if asked::MOST < n {
-        return false;
+        return say::no_case(page, out);
     }
-    answer_with(line, words::front(&bytes, n))
+    answer_with(page, out, line, words::front(&bytes, n))
 }
 
-fn answer_all(input: &[u8]) {
+// The lines behind one whose answer can't be written are not answered.
+fn answer_all(page: &mut Page, out: Out, input: &[u8]) -> Out {
+    let mut said = out;
     let mut start: usize = 0;
     while start < input.len() {
         let line = words::line(input, start);
-        say::end_line(answer(line));
+        let answered = answer(page, said, line);
+        said = say::end_line(page, answered);
+        if !said.sound {
+            return said;
+        }
         start += line.len() + 1;
     }
+    said
 }
 
 fn main() {
-    let mut input = room::input();
-    let n = io::read_full(STDIN_FILENO, &mut input);
-    answer_all(words::front(&input, n));
+    let mut lines = room::lines();
+    let Number::Value(n) = input::read_whole(b"answers", &mut lines) else {
+        return;
+    };
+    let mut page = say::new_page();
+    let said = answer_all(&mut page, say::start(), words::front(&lines, n));
+    say::close(&page, said, b"answers");
 }

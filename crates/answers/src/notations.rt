@@ -1,7 +1,10 @@
-// Notations that are read at the front of some bytes. An answer says whether the line was such a case.
+// Notations that are read at the front of some bytes.
 use crate::envelope;
 use crate::outcome;
+use crate::writes;
 use cases::say;
+use cases::say::Out;
+use cases::say::Page;
 use cases::words;
 use types::Place;
 use types::ReadBytes;
@@ -12,69 +15,69 @@ use types::ReadStrings;
 use types::Walk;
 use types::read;
 
-fn value(x: i64, next: usize) {
-    say::integer(b"value ", x);
-    outcome::next(next);
+fn value(page: &mut Page, out: Out, x: i64, next: usize) -> Out {
+    let said = say::integer(page, out, b"value ", x);
+    outcome::next(page, said, next)
 }
 
-fn int(bytes: &[u8]) {
+fn int(page: &mut Page, out: Out, bytes: &[u8]) -> Out {
     match read::read_int(bytes, 0) {
-        ReadInt::Value(x, next) => value(x as i64, next),
-        ReadInt::Refused(why) => outcome::refused(why),
+        ReadInt::Value(x, next) => value(page, out, x as i64, next),
+        ReadInt::Refused(why) => outcome::refused(page, out, why),
     }
 }
 
-fn long(bytes: &[u8]) {
+fn long(page: &mut Page, out: Out, bytes: &[u8]) -> Out {
     match read::read_long(bytes, 0) {
-        ReadLong::Value(x, next) => value(x, next),
-        ReadLong::Refused(why) => outcome::refused(why),
+        ReadLong::Value(x, next) => value(page, out, x, next),
+        ReadLong::Refused(why) => outcome::refused(page, out, why),
     }
 }
 
-fn strings(bytes: &[u8], walk: Walk, next: usize) {
-    envelope::texts(b"strings ", bytes, walk);
-    outcome::next(next);
+fn strings(page: &mut Page, out: Out, bytes: &[u8], walk: Walk, next: usize) -> Out {
+    let said = envelope::texts(page, out, b"strings ", bytes, walk);
+    outcome::next(page, said, next)
 }
 
-fn list(bytes: &[u8]) {
+fn list(page: &mut Page, out: Out, bytes: &[u8]) -> Out {
     match read::read_string_list(bytes, 0) {
-        ReadStrings::Strings(walk, next) => strings(bytes, walk, next),
-        ReadStrings::Refused(why) => outcome::refused(why),
+        ReadStrings::Strings(walk, next) => strings(page, out, bytes, walk, next),
+        ReadStrings::Refused(why) => outcome::refused(page, out, why),
     }
 }
 
-fn null(next: usize) {
-    say::number(b"null next ", next);
+fn null(page: &mut Page, out: Out, next: usize) -> Out {
+    say::number(page, out, b"null next ", next)
 }
 
-fn part(bytes: &[u8], place: Place, next: usize) {
-    say::spelt(b"part ", types::part(bytes, place));
-    outcome::next(next);
+fn part(page: &mut Page, out: Out, bytes: &[u8], place: Place, next: usize) -> Out {
+    let said = say::spelt(page, out, b"part ", types::part(bytes, place));
+    outcome::next(page, said, next)
 }
 
-fn bytes_or_null(bytes: &[u8]) {
+fn bytes_or_null(page: &mut Page, out: Out, bytes: &[u8]) -> Out {
     match read::read_bytes(bytes, 0) {
-        ReadBytes::Null(next) => null(next),
-        ReadBytes::Part(place, next) => part(bytes, place, next),
-        ReadBytes::Refused(why) => outcome::refused(why),
+        ReadBytes::Null(next) => null(page, out, next),
+        ReadBytes::Part(place, next) => part(page, out, bytes, place, next),
+        ReadBytes::Refused(why) => outcome::refused(page, out, why),
     }
 }
 
-fn short_bytes(bytes: &[u8]) {
+fn short_bytes(page: &mut Page, out: Out, bytes: &[u8]) -> Out {
     match read::read_short_bytes(bytes, 0) {
-        ReadPart::Part(place, next) => part(bytes, place, next),
-        ReadPart::Refused(why) => outcome::refused(why),
+        ReadPart::Part(place, next) => part(page, out, bytes, place, next),
+        ReadPart::Refused(why) => outcome::refused(page, out, why),
     }
 }
 
-pub fn answer(name: &[u8], bytes: &[u8]) -> bool {
+// What has another name may be something to write.
+pub fn answer(page: &mut Page, out: Out, name: &[u8], bytes: &[u8]) -> Out {
     match words::index(b"int long list bytes shortbytes", name) {
-        0 => int(bytes),
-        1 => long(bytes),
-        2 => list(bytes),
-        3 => bytes_or_null(bytes),
-        4 => short_bytes(bytes),
-        _ => return false,
+        0 => int(page, out, bytes),
+        1 => long(page, out, bytes),
+        2 => list(page, out, bytes),
+        3 => bytes_or_null(page, out, bytes),
+        4 => short_bytes(page, out, bytes),
+        _ => writes::answer(page, out, name, bytes),
     }
-    true
 }

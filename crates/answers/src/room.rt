@@ -1,7 +1,7 @@
 // Room for what is read and written. As answers of functions the arrays stay opaque to a proof.
 
 // The longest input.
-pub fn input() -> [u8; 524_288] {
+pub fn lines() -> [u8; 524_288] {
     [0u8; 524_288]
 }
 
@@ -15,7 +15,7 @@ pub fn bytes() -> [u8; 262_200] {
 }
 
 // The longest segment, with some bytes more.
-pub fn out() -> [u8; 131_200] {
+pub fn output() -> [u8; 131_200] {
     [0u8; 131_200]
 }
 

@@ -3,77 +3,95 @@ use crate::asked;
 use crate::outcome;
 use crate::room;
 use cases::say;
+use cases::say::Out;
+use cases::say::Page;
 use cases::words;
 use frame_encoder::Encoded;
 use frame_encoder::FrameEncoder;
 use segment::Form;
 
 // An envelope that does not fit is the one refusal that comes here.
-fn added(answer: Encoded) {
+fn say_added(page: &mut Page, out: Out, answer: Encoded) -> Out {
     match answer {
-        Encoded::Wrote(_, _) => say::text(b"yes "),
-        Encoded::Refused(_) => say::text(b"no "),
+        Encoded::Wrote(_, _) => say::text(page, out, b"yes "),
+        Encoded::Refused(_) => say::text(page, out, b"no "),
     }
 }
 
-fn add(encoder: FrameEncoder, out: &mut [u8], envelope: &[u8]) -> FrameEncoder {
-    let step = encoder.add_envelope(out, envelope);
-    let answer = step.answer;
-    added(answer);
-    step.encoder
+// The writer, with what was said of what it added.
+struct Packing {
+    encoder: FrameEncoder,
+    out: Out,
 }
 
-fn finished(answer: Encoded, out: &[u8]) {
-    match answer {
-        Encoded::Wrote(n, _) => outcome::wrote(out, n),
-        Encoded::Refused(why) => outcome::refused(why),
+fn add(page: &mut Page, packing: Packing, output: &mut [u8], envelope: &[u8]) -> Packing {
+    let encoder = packing.encoder;
+    let out = packing.out;
+    let step = encoder.add_envelope(output, envelope);
+    let answer = step.answer;
+    let next = step.encoder;
+    Packing {
+        encoder: next,
+        out: say_added(page, out, answer),
     }
 }
 
-fn finish(encoder: FrameEncoder, out: &mut [u8]) {
-    let step = encoder.finalize_self_contained(out);
+fn finished(page: &mut Page, out: Out, answer: Encoded, output: &[u8]) -> Out {
+    match answer {
+        Encoded::Wrote(n, _) => outcome::wrote(page, out, output, n),
+        Encoded::Refused(why) => outcome::refused(page, out, why),
+    }
+}
+
+fn finish(page: &mut Page, packing: Packing, output: &mut [u8]) -> Out {
+    let encoder = packing.encoder;
+    let out = packing.out;
+    let step = encoder.finalize_self_contained(output);
     let answer = step.answer;
-    finished(answer, out);
+    finished(page, out, answer, output)
 }
 
-fn pack_both(out: &mut [u8], first: &[u8], second: &[u8]) {
-    let one = add(FrameEncoder::new(Form::Short), out, first);
-    let both = add(one, out, second);
-    finish(both, out);
+fn pack_both(page: &mut Page, out: Out, output: &mut [u8], first: &[u8], second: &[u8]) -> Out {
+    let fresh = Packing {
+        encoder: FrameEncoder::new(Form::Short),
+        out,
+    };
+    let one = add(page, fresh, output, first);
+    let both = add(page, one, output, second);
+    finish(page, both, output)
 }
 
-fn pack_fresh(first: &[u8], second: &[u8]) {
-    let mut out = room::out();
-    pack_both(&mut out, first, second);
+fn pack_fresh(page: &mut Page, out: Out, first: &[u8], second: &[u8]) -> Out {
+    let mut output = room::output();
+    pack_both(page, out, &mut output, first, second)
 }
 
-pub fn pack(line: &[u8], second: &[u8]) -> bool {
+pub fn pack(page: &mut Page, out: Out, line: &[u8], second: &[u8]) -> Out {
     let mut first = room::bytes();
     let n = asked::bytes(line, 1, &mut first);
     if asked::MOST < n {
-        return false;
+        return say::no_case(page, out);
     }
-    pack_fresh(words::front(&first, n), second);
-    true
+    pack_fresh(page, out, words::front(&first, n), second)
 }
 
-fn took(out: &[u8], n: usize, taken: usize) {
-    say::number(b"took ", taken);
-    say::text(b" ");
-    outcome::wrote(out, n);
+fn took(page: &mut Page, out: Out, output: &[u8], n: usize, taken: usize) -> Out {
+    let counted = say::number(page, out, b"took ", taken);
+    let said = say::text(page, counted, b" ");
+    outcome::wrote(page, said, output, n)
 }
 
-fn sent(answer: Encoded, out: &[u8]) {
+fn sent(page: &mut Page, out: Out, answer: Encoded, output: &[u8]) -> Out {
     match answer {
-        Encoded::Wrote(n, taken) => took(out, n, taken),
-        Encoded::Refused(why) => outcome::refused(why),
+        Encoded::Wrote(n, taken) => took(page, out, output, n, taken),
+        Encoded::Refused(why) => outcome::refused(page, out, why),
     }
 }
 
-pub fn piece(bytes: &[u8]) {
-    let mut out = room::out();
+pub fn piece(page: &mut Page, out: Out, bytes: &[u8]) -> Out {
+    let mut output = room::output();
     let encoder = FrameEncoder::new(Form::Short);
-    let step = encoder.finalize_non_self_contained(&mut out, bytes);
+    let step = encoder.finalize_non_self_contained(&mut output, bytes);
     let answer = step.answer;
-    sent(answer, &out);
+    sent(page, out, answer, &output)
 }

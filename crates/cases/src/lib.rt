@@ -1,4 +1,6 @@
-// What programs share: the words of a case, and the words of an answer.
+// What programs share: standard input, the words of a case, the words of an answer, and what is told where reading or writing fails.
 
+pub mod input;
 pub mod say;
+pub mod tell;
 pub mod words;

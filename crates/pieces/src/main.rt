@@ -1,8 +1,11 @@
-// Gives the stream of each line of standard input to a reader in pieces, and writes what was written down of it, a line for a line. README.md beside src/ has the shape of a line.
+// Gives the stream of each line of standard input to a reader in pieces, and writes what was written down of it, a line for a line. README.md beside src/
+// has the shape of a line.
+use cases::input;
 use cases::say;
+use cases::say::Out;
+use cases::say::Page;
 use cases::words;
 use cases::words::Number;
-use libc::STDIN_FILENO;
 use segment::Form;
 use stream::collect;
 
@@ -54,6 +57,8 @@ fn open(line: &[u8]) -> Opened {
 
 // All four are as long as the case says.
 fn give(
+    page: &mut Page,
+    out: Out,
     form: Form,
     stream: &[u8],
     cuts: &[usize],
@@ -61,13 +66,15 @@ fn give(
     reassembly: &mut [u8],
     envelopes: &mut [u8],
     marks: &mut [usize],
-) {
+) -> Out {
     let all = collect(form, segment, reassembly, stream, cuts, envelopes, marks);
-    outcome::all(all, segment, reassembly, envelopes, marks);
+    outcome::all(page, out, all, segment, reassembly, envelopes, marks)
 }
 
 // Only the front of each is lent; where one is not so long it is no case.
 fn give_lent(
+    page: &mut Page,
+    out: Out,
     case: Case,
     stream: &[u8],
     cuts: &[usize],
@@ -75,25 +82,27 @@ fn give_lent(
     reassembly: &mut [u8],
     envelopes: &mut [u8],
     marks: &mut [usize],
-) -> bool {
+) -> Out {
     let form = case.form;
     let a = case.segment;
     let b = case.reassembly;
     let c = case.envelopes;
     let d = case.marks;
     if segment.len() < a {
-        return false;
+        return say::no_case(page, out);
     }
     if reassembly.len() < b {
-        return false;
+        return say::no_case(page, out);
     }
     if envelopes.len() < c {
-        return false;
+        return say::no_case(page, out);
     }
     if marks.len() < d {
-        return false;
+        return say::no_case(page, out);
     }
     give(
+        page,
+        out,
         form,
         stream,
         cuts,
@@ -101,8 +110,7 @@ fn give_lent(
         &mut reassembly[0..b],
         &mut envelopes[0..c],
         &mut marks[0..d],
-    );
-    true
+    )
 }
 
 // One byte more than the ranges of both buffers have, so that their ends can be passed. As answers of functions the arrays stay opaque to a proof.
@@ -124,12 +132,14 @@ fn marks_room() -> [usize; 256] {
 }
 
 // Buffers and outputs are fresh, and filled so that every change shows.
-fn give_fresh(case: Case, stream: &[u8], cuts: &[usize]) -> bool {
+fn give_fresh(page: &mut Page, out: Out, case: Case, stream: &[u8], cuts: &[usize]) -> Out {
     let mut segment = segment_room();
     let mut reassembly = reassembly_room();
     let mut envelopes = envelopes_room();
     let mut marks = marks_room();
     give_lent(
+        page,
+        out,
         case,
         stream,
         cuts,
@@ -140,34 +150,63 @@ fn give_fresh(case: Case, stream: &[u8], cuts: &[usize]) -> bool {
     )
 }
 
-// Whether the line was a case. The items serve on the way to the bytes, and then hold the cuts.
-fn answer(line: &[u8], items: &mut [usize], bytes: &mut [u8]) -> bool {
+// The items serve on the way to the bytes, and then hold the cuts.
+fn answer(page: &mut Page, out: Out, line: &[u8], items: &mut [usize], bytes: &mut [u8]) -> Out {
     let Opened::Is(case) = open(line) else {
-        return false;
+        return say::no_case(page, out);
     };
     let Number::Value(n) = words::bytes_at(line, 6, items, bytes) else {
-        return false;
+        return say::no_case(page, out);
     };
     let Number::Value(k) = words::lengths_at(line, 5, items) else {
-        return false;
+        return say::no_case(page, out);
     };
-    give_fresh(case, words::front(bytes, n), words::front_items(items, k))
+    give_fresh(
+        page,
+        out,
+        case,
+        words::front(bytes, n),
+        words::front_items(items, k),
+    )
 }
 
-fn answer_all(input: &[u8], items: &mut [usize], bytes: &mut [u8]) {
+// The lines behind one whose answer can't be written are not answered.
+fn answer_all(
+    page: &mut Page,
+    out: Out,
+    input: &[u8],
+    items: &mut [usize],
+    bytes: &mut [u8],
+) -> Out {
+    let mut said = out;
     let mut start: usize = 0;
     while start < input.len() {
         let line = words::line(input, start);
-        say::end_line(answer(line, items, bytes));
+        let answered = answer(page, said, line, items, bytes);
+        said = say::end_line(page, answered);
+        if !said.sound {
+            return said;
+        }
         start += line.len() + 1;
     }
+    said
 }
 
 // The longest input, and the most bytes or cuts that a word may stand for.
 fn main() {
-    let mut input = [0u8; 393_216];
+    let mut lines = [0u8; 393_216];
     let mut items = [0usize; 131_200];
     let mut bytes = [0u8; 131_200];
-    let n = io::read_full(STDIN_FILENO, &mut input);
-    answer_all(&input[..n], &mut items, &mut bytes);
+    let Number::Value(n) = input::read_whole(b"pieces", &mut lines) else {
+        return;
+    };
+    let mut page = say::new_page();
+    let said = answer_all(
+        &mut page,
+        say::start(),
+        words::front(&lines, n),
+        &mut items,
+        &mut bytes,
+    );
+    say::close(&page, said, b"pieces");
 }

@@ -1,73 +1,85 @@
 // What is written for a person of what was written down, and of the buffers after it.
 use cases::say;
+use cases::say::Out;
+use cases::say::Page;
 use cases::words;
 use crc::Running32;
-use libc::STDOUT_FILENO;
 use refusal::Refusal;
 use stream::Collected;
 use stream::End;
 use stream::Notes;
 
-fn say_notes(notes: Notes) {
-    say::number(b"answers ", notes.answers);
-    say::number(b" bytes ", notes.bytes);
+fn say_notes(page: &mut Page, out: Out, notes: Notes) -> Out {
+    let counted = say::number(page, out, b"answers ", notes.answers);
+    let said = say::number(page, counted, b" bytes ", notes.bytes);
     if notes.complete {
-        say::text(b" complete yes");
-    } else {
-        say::text(b" complete no");
+        return say::text(page, said, b" complete yes");
     }
+    say::text(page, said, b" complete no")
 }
 
-fn say_marks(marks: &[usize]) {
-    say::text(b" marks");
+fn say_marks(page: &mut Page, out: Out, marks: &[usize]) -> Out {
+    let mut said = say::text(page, out, b" marks");
     let mut i: usize = 0;
     while i < marks.len() {
-        say::number(b" ", marks[i]);
+        said = say::number(page, said, b" ", marks[i]);
         i += 1;
     }
+    said
 }
 
 // Held bytes stand at the front of each buffer.
-fn say_held(before: &[u8], n: usize, buffer: &[u8]) {
-    say::number(before, n);
-    say::spelt(b" ", words::front(buffer, n));
+fn say_held(page: &mut Page, out: Out, before: &[u8], n: usize, buffer: &[u8]) -> Out {
+    let said = say::number(page, out, before, n);
+    say::spelt(page, said, b" ", words::front(buffer, n))
 }
 
-fn say_refused(why: Refusal, taken: usize) {
-    say::refused(b" refused ", why);
-    say::number(b" after ", taken);
+fn say_refused(page: &mut Page, out: Out, why: Refusal, taken: usize) -> Out {
+    let said = say::refused(page, out, b" refused ", why);
+    say::number(page, said, b" after ", taken)
 }
 
-fn say_end<'a>(end: End, segment: &'a [u8], reassembly: &'a [u8]) {
+fn say_both(
+    page: &mut Page,
+    out: Out,
+    filled: usize,
+    pending: usize,
+    segment: &[u8],
+    reassembly: &[u8],
+) -> Out {
+    let said = say_held(page, out, b" held ", filled, segment);
+    say_held(page, said, b" and ", pending, reassembly)
+}
+
+fn say_end(page: &mut Page, out: Out, end: End, segment: &[u8], reassembly: &[u8]) -> Out {
     match end {
-        End::Refused(why, taken) => say_refused(why, taken),
-        End::Held(filled, pending) => {
-            say_held(b" held ", filled, segment);
-            say_held(b" and ", pending, reassembly);
-        }
+        End::Refused(why, taken) => say_refused(page, out, why, taken),
+        End::Held(filled, pending) => say_both(page, out, filled, pending, segment, reassembly),
     }
 }
 
 // One check over both buffers.
-fn say_check<'a>(segment: &'a [u8], reassembly: &'a [u8]) {
+fn say_check(page: &mut Page, out: Out, segment: &[u8], reassembly: &[u8]) -> Out {
     let check = Running32::start().more(segment).more(reassembly);
-    say::text(b" check ");
-    io::print_hex(STDOUT_FILENO, check.finish() as u64, 8);
+    let said = say::text(page, out, b" check ");
+    say::hex(page, said, check.finish(), 8)
 }
 
 // The outputs are written whole.
-pub fn all<'a>(
+pub fn all(
+    page: &mut Page,
+    out: Out,
     all: Collected,
-    segment: &'a [u8],
-    reassembly: &'a [u8],
-    envelopes: &'a [u8],
-    marks: &'a [usize],
-) {
+    segment: &[u8],
+    reassembly: &[u8],
+    envelopes: &[u8],
+    marks: &[usize],
+) -> Out {
     let notes = all.notes;
     let end = all.end;
-    say_notes(notes);
-    say::spelt(b" envelopes ", envelopes);
-    say_marks(marks);
-    say_end(end, segment, reassembly);
-    say_check(segment, reassembly);
+    let noted = say_notes(page, out, notes);
+    let spelt = say::spelt(page, noted, b" envelopes ", envelopes);
+    let marked = say_marks(page, spelt, marks);
+    let ended = say_end(page, marked, end, segment, reassembly);
+    say_check(page, ended, segment, reassembly)
 }

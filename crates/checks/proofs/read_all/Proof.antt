@@ -15,12 +15,11 @@ read-all-spec =
     (tie.spec
     Inv-loop
     μ-loop
-    (λ c. tt)
+    (λ c. search needs)
     (λ c. search needs)
     (λ c κs. search needs)
     (λ c. search needs)
     (λ c. search needs)
-    (λ c. tt)
     (λ c. search needs)
     (λ c. search needs)
     (λ c. search needs))

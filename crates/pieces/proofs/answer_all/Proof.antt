@@ -2,16 +2,15 @@
 use Prim.Native.Nat.{_-_}
 use mathlib.Core.Path.{_≡_}
 use borrow.Author.Needs.{needs}
-use native.Mathlib.Omega.{arith}
 use lib.ListN.{length}
 use Rattle.pieces.proofs.answer_all.Statement.{statement}
 use Rattle.pieces.proofs.answer_all.Tie as tie
 
 abbrev Inv-loop : tie.InvT-loop
-Inv-loop input items₀ bytes₀ start₀ items bytes start = (length items ≡ length items₀) × (length bytes ≡ length bytes₀)
+Inv-loop page₀ input items₀ bytes₀ said₀ start₀ page items bytes said start = (length items ≡ length items₀) × (length bytes ≡ length bytes₀)
 
 abbrev μ-loop : tie.MeasureT-loop
-μ-loop input items₀ bytes₀ start₀ items bytes start = length input - start
+μ-loop page₀ input items₀ bytes₀ said₀ start₀ page items bytes said start = length input - start
 
 pub answer-all-spec : {M : Type 1} → statement M
 answer-all-spec =
@@ -20,13 +19,16 @@ answer-all-spec =
     Inv-loop
     μ-loop
     (λ c. search needs)
-    (λ c κs. tt)
-    (λ c κs. tt)
-    (λ c κs. tt)
-    (λ c. omega arith)
-    (λ c. omega arith)
-    (λ c. omega arith)
+    (λ c κs. search needs)
+    (λ c κs. search needs)
+    (λ c κs. search needs)
     (λ c. search needs)
     (λ c. search needs)
     (λ c. search needs)
-    (λ c. tt))
+    (λ c. search needs)
+    (λ c. search needs)
+    (λ c. search needs)
+    (λ c. search needs)
+    (λ c. search needs)
+    (λ c. search needs)
+    (λ c. search needs))

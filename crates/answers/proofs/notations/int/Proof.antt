@@ -14,7 +14,7 @@ int-spec =
     (λ c κs. search needs)
     (λ c. search needs)
     (λ c.
-    let x = c .before .x .given .0 .0 in
+    let x = c .before .before .x .given .0 .0 in
     let h : SFits w32 x = search needs in
     rw (toZ-ofZ w32 x h) (record { sfits = omega (arith, h .sfits) }))
     (λ c κs. search needs)

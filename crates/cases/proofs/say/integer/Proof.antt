@@ -11,17 +11,16 @@ pub integer-spec : {M : Type 1} → statement M
 integer-spec =
     tie.close
     (tie.spec
-    (λ c κs. search needs)
     (λ c.
-    let a = c .before .before .before in
+    let a = c .before .before in
     rw (bits-neg w64 (a .args .x) (a .fits .x) (c .if1 .taken)) (tt, record { fits = omega arith }))
+    (λ c κs. search needs)
     (λ c. search needs)
     (λ c κs. search needs)
     (λ c κs. search needs)
-    (λ c κs. search needs)
+    (λ c. search needs)
     (λ c.
     let a = c .before .before .before in
-    rw (bits-pos w64 (a .args .x) (a .fits .x) (c .if1 .left)) (tt, ofZ-fits w64 (a .args .x) (a .fits .x)))
+    rw (bits-pos w64 (a .args .x) (a .fits .x) (c .before .if1 .left)) (tt, ofZ-fits w64 (a .args .x) (a .fits .x)))
     (λ c κs. search needs)
-    (λ c. search needs)
     (λ c. search needs))

@@ -7,10 +7,10 @@ use Rattle.cases.proofs.say.runs.Statement.{statement}
 use Rattle.cases.proofs.say.runs.Tie as tie
 
 abbrev Inv-loop : tie.InvT-loop
-Inv-loop bytes start₀ i₀ start i = start ≤ i
+Inv-loop page₀ bytes said₀ start₀ i₀ page said start i = start ≤ i
 
 abbrev μ-loop : tie.MeasureT-loop
-μ-loop bytes start₀ i₀ start i = length bytes - i
+μ-loop page₀ bytes said₀ start₀ i₀ page said start i = length bytes - i
 
 pub runs-spec : {M : Type 1} → statement M
 runs-spec =

@@ -12,7 +12,7 @@ stream-spec =
     (tie.spec
     (λ c. search needs)
     (λ c.
-    let a = c .before in
+    let a = c .before .before in
     rw (toZ-ofZ w16 (a .args .stream) (a .fits .stream)) (record { sfits = omega (arith, a .fits .stream .sfits) }))
     (λ c κs. search needs)
     (λ c. search needs))
