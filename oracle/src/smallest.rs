@@ -1,6 +1,7 @@
 //! The smallest input that still shows a difference.
 use crate::judge_streams::{self, Lent};
-use crate::rules::{self, First};
+use crate::rules;
+use crate::said::Outcome;
 use crate::streams::{Damage, Part, Stream, LARGEST, SIZES};
 use crate::tally::Tally;
 
@@ -105,7 +106,7 @@ pub fn simpler_bytes(bytes: &[u8]) -> Vec<Vec<u8>> {
 /// Without one of the envelopes at the front, and with a shorter body of one.
 fn simpler_envelopes(payload: &[u8]) -> Vec<Vec<u8>> {
     let (mut at, mut out) = (0, vec![]);
-    while let First::Whole(n) = rules::front(&payload[at..]).first {
+    while let Outcome::Gave(Some((n, _))) = rules::front(&payload[at..]).due {
         out.push(without(payload, at, at + n));
         for body in [0, (n - 9) / 2, (n - 9).saturating_sub(1)] {
             let mut copy = without(payload, at + 9 + body, at + n);

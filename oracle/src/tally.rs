@@ -47,6 +47,14 @@ impl Tally {
             .collect()
     }
 
+    /// What was compared, and the refusals that came from both.
+    pub fn kinds(&self) -> Vec<String> {
+        let refusals = self.refusals.keys();
+        let refusals = refusals.map(|(what, number)| format!("{what}: {number}"));
+        let compared = self.compared.keys().map(|what| what.to_string());
+        compared.chain(refusals).collect()
+    }
+
     pub fn print(&self) {
         println!("compared:");
         for (what, count) in &self.compared {
