@@ -86,7 +86,8 @@ pub fn string_list(random: &mut Random, faults: Faults) -> Vec<u8> {
     out
 }
 
-/// A list with a count of 32,768 or a little more, of strings or of the bytes in one, and all that is counted. Now and then the last text is no text, or its last byte is missing.
+/// A list with a count of 32,768 or a little more, of strings or of the bytes in one, and all that is counted. Now and then the last text is no text, or its
+/// last byte is missing.
 pub fn full_list(random: &mut Random) -> Vec<u8> {
     let n = 32_768 + random.below(3);
     let (count, len) = *random.pick(&[(n, 0), (n, 1), (1, n), (2, n)]);

@@ -59,6 +59,10 @@ pub fn plant(fault: Fault) {
     PLANTED.store(fault as usize + 1, Ordering::Relaxed);
 }
 
+pub fn is_any() -> bool {
+    PLANTED.load(Ordering::Relaxed) != 0
+}
+
 /// Whether this fault is planted.
 pub fn is(fault: Fault) -> bool {
     PLANTED.load(Ordering::Relaxed) == fault as usize + 1

@@ -38,7 +38,9 @@ fn our_parse(bytes: &[u8]) -> Parsed {
 
 fn our_size(bytes: &[u8]) -> Outcome<usize> {
     match ours::size(bytes) {
-        Outcome::Gave(n) if faults::is(Fault::SizeMore) && n > 0 && bytes[0] & 0x7f == 3 => Outcome::Gave(n + 1),
+        Outcome::Gave(n) if faults::is(Fault::SizeMore) && n > 0 && bytes[0] & 0x7f == 3 => {
+            Outcome::Gave(n + 1)
+        }
         answer => answer,
     }
 }

@@ -59,7 +59,9 @@ fn class(what: &'static str, ours: bool, rust: bool, tally: &mut Tally) -> Verdi
         return Ok(());
     }
     let whose = if ours { "the Rust" } else { "this library" };
-    Err(format!("segment writer: {what}: {whose} does another thing"))
+    Err(format!(
+        "segment writer: {what}: {whose} does another thing"
+    ))
 }
 
 /// Without debug assertions the Rust writes a header that says empty and self-contained, and all bytes behind it.

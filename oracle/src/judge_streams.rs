@@ -1,5 +1,5 @@
-//! Streams in pieces. This library is held to the rules at every call, and to the Rust up to where the stream leaves the part on which the two must agree; there
-//! the Rust has to do what the class says.
+//! Streams in pieces. This library is held to the rules at every call, and to the Rust up to where the stream leaves the part on which the two must agree;
+//! there the Rust has to do what the class says.
 use crate::faults::{self, Fault};
 use crate::judge_envelopes::{rust_end, spoil};
 use crate::judged::Form;
@@ -37,7 +37,10 @@ fn spoil_call(form: Form, heard: &mut Vec<Dated>) {
     }
     if faults::is(Fault::BehindManyLost) {
         let is_many = |(_, answer): &Dated| matches!(answer, Answer::Envelope(e) if e.warnings.len() > 32_767);
-        let end = heard.iter().position(is_many).map_or(heard.len(), |k| k + 1);
+        let end = heard
+            .iter()
+            .position(is_many)
+            .map_or(heard.len(), |k| k + 1);
         heard.truncate(end);
     }
     spoil_refusing(heard);
@@ -50,7 +53,11 @@ fn spoil_in_stream(envelope: &mut Envelope) {
     }
     if faults::is(Fault::LongInStream) {
         let is_long = |text: &&mut Vec<u8>| text.len() > 32_767;
-        envelope.warnings.iter_mut().filter(is_long).for_each(|text| text.truncate(32_767));
+        envelope
+            .warnings
+            .iter_mut()
+            .filter(is_long)
+            .for_each(|text| text.truncate(32_767));
     }
 }
 
@@ -69,7 +76,9 @@ fn spoil_refusing(heard: &mut Vec<Dated>) {
     if faults::is(Fault::BeforePanic) && number == 11 {
         before.stream ^= 1;
     }
-    if faults::is(Fault::BeforeError) && number == 10 || faults::is(Fault::BeforeRoom) && number == 7 {
+    if faults::is(Fault::BeforeError) && number == 10
+        || faults::is(Fault::BeforeRoom) && number == 7
+    {
         heard.remove(last - 1);
     }
 }
@@ -91,7 +100,12 @@ fn pieces_to<'a>(stream: &Stream, bytes: &'a [u8], leaves: Option<Leaves>) -> Ve
 }
 
 /// Whether the Rust does what it was seen to do, in a call that comes to the end of a stream that leaves there.
-fn is_rust_by_class(form: Form, stream: &[u8], from: usize, theirs: &Outcome<Vec<Envelope>>) -> bool {
+fn is_rust_by_class(
+    form: Form,
+    stream: &[u8],
+    from: usize,
+    theirs: &Outcome<Vec<Envelope>>,
+) -> bool {
     // Its buffers grow, so only what envelopes and compression are to it tells what it does.
     let grown = story(form, stream, GROWING);
     let due = grown.due(from, stream.len());
@@ -190,11 +204,13 @@ impl Trial<'_> {
         self.tally.compared("pieces of streams, by the Rust");
         let leaves = self.story.leaves.filter(|leaves| at >= leaves.due);
         let is_so = if let Some(leaves) = leaves {
-            self.tally.outside("stream", leaves.name(), || told(self.stream, self.bytes));
+            self.tally
+                .outside("stream", leaves.name(), || told(self.stream, self.bytes));
             self.decoder = None;
             is_rust_by_class(self.stream.form, &self.bytes[..at], from, &theirs)
         } else {
-            self.tally.add("envelopes of streams", envelopes(ours).len());
+            self.tally
+                .add("envelopes of streams", envelopes(ours).len());
             theirs == as_rust(ours)
         };
         if is_so {
@@ -219,7 +235,10 @@ impl Trial<'_> {
         if again[..] == ours[ours.len() - 1..] && self.reader.held() == 0 {
             return Ok(());
         }
-        Err(format!("a call after a refusal\n  {}\n  ours {again:?}", self.told()))
+        Err(format!(
+            "a call after a refusal\n  {}\n  ours {again:?}",
+            self.told()
+        ))
     }
 
     fn held(&mut self) -> Result<(), String> {
@@ -227,7 +246,7 @@ impl Trial<'_> {
         let theirs = self.decoder.as_ref().map(|decoder| decoder.held());
         let spoilt = faults::is(Fault::HeldBehindMany) && theirs.is_none();
         let ours = self.reader.held() + spoilt as usize;
-        if ours == self.story.held && theirs.is_none_or(|theirs| theirs == ours) {
+        if ours == self.story.held && theirs.unwrap_or(ours) == ours {
             return Ok(());
         }
         Err(format!(

@@ -85,11 +85,7 @@ fn an_envelope(random: &mut Random, k: usize, tally: &mut Tally) -> Verdict {
 
 /// A list, or [short bytes], with a count of 32,768 or more and all that it counts, or a byte less.
 fn a_full_notation(random: &mut Random, tally: &mut Tally) -> Verdict {
-    on_bytes(
-        envelopes::full_list(random),
-        tally,
-        judge_notations::list,
-    )?;
+    on_bytes(envelopes::full_list(random), tally, judge_notations::list)?;
     let (n, less) = (32_768 + random.below(3), random.below(3));
     let mut bytes = (n as u16).to_be_bytes().to_vec();
     bytes.extend(random.bytes(n + 1 - less));
@@ -191,7 +187,7 @@ fn find_faults(seed: u64) -> Verdict {
         };
         match found {
             Ok(()) => return Err(format!("not found: {name}")),
-            Err(difference) => println!("{name}: found in {difference}"),
+            Err(difference) => println!("{name}: found in {}", said::cut(&difference)),
         }
     }
     println!("{} faults, all found", faults::ALL.len());
@@ -255,7 +251,7 @@ fn main() {
         }
         Ok(()) => {}
         Err(why) => {
-            println!("the Rust {build} overflow checks: {why}");
+            println!("the Rust {build} overflow checks: {}", said::cut(&why));
             std::process::exit(1);
         }
     }

@@ -182,7 +182,11 @@ impl List {
             self.bytes("bytes", bytes, in_words(theirs::bytes(bytes), part));
         }
         if bytes.len() < 2 || bytes[0] < 0x80 {
-            self.bytes("shortbytes", bytes, in_words(theirs::short_bytes(bytes), part));
+            self.bytes(
+                "shortbytes",
+                bytes,
+                in_words(theirs::short_bytes(bytes), part),
+            );
         }
     }
 

@@ -80,6 +80,15 @@ pub fn as_rust(answers: &[Dated]) -> Outcome<Vec<Envelope>> {
     refusal(answers).map_or_else(|| Outcome::Gave(envelopes(answers)), Outcome::Refused)
 }
 
+/// A report for a person, whose lines are cut where they are very long.
+pub fn cut(report: &str) -> String {
+    let cut = |line: &str| match line.char_indices().nth(2_000) {
+        Some((end, _)) => format!("{} .. {} characters in all", &line[..end], line.len()),
+        None => line.to_string(),
+    };
+    report.lines().map(cut).collect::<Vec<_>>().join("\n")
+}
+
 pub fn hex(bytes: &[u8]) -> String {
     if bytes.is_empty() {
         return "-".to_string();

@@ -205,7 +205,13 @@ fn parts(random: &mut Random, form: Form, scale: Scale, faults: Faults) -> Vec<P
 
 /// An envelope with a full list, short ones before it and behind it, in one segment or in a run.
 fn full_parts(random: &mut Random, form: Form) -> Vec<Part> {
-    let (good, short) = (Faults(0), Scale { segments: 1, body: 9 });
+    let (good, short) = (
+        Faults(0),
+        Scale {
+            segments: 1,
+            body: 9,
+        },
+    );
     let mut joined = envelope(random, short.body, good);
     joined.extend(full_envelope(random));
     joined.extend(envelope(random, short.body, good));

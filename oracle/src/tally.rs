@@ -22,7 +22,8 @@ impl Tally {
         *self.refusals.entry((what, number)).or_default() += 1;
     }
 
-    /// The two disagree outside the part on which they must agree, as a class of differences says. Of the inputs that are looked at, the first ones and then some, the shortest is kept.
+    /// The two disagree outside the part on which they must agree, as a class of differences says. Of the inputs that are looked at, the first ones and then
+    /// some, the shortest is kept.
     pub fn outside(
         &mut self,
         what: &'static str,
