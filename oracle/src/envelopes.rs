@@ -86,11 +86,11 @@ pub fn string_list(random: &mut Random, faults: Faults) -> Vec<u8> {
     out
 }
 
-/// A list with a count of 32,768 or a little more, of strings or of the bytes in one, and all that is counted. Now and then the last text is no text, or its
-/// last byte is missing.
-pub fn full_list(random: &mut Random) -> Vec<u8> {
+/// A list with a count of 32,768 or a little more, of strings or, every second time, of the bytes in one, and all that is counted. Now and then the last text
+/// is no text, or its last byte is missing.
+pub fn full_list(random: &mut Random, k: usize) -> Vec<u8> {
     let n = 32_768 + random.below(3);
-    let (count, len) = *random.pick(&[(n, 0), (n, 1), (1, n), (2, n)]);
+    let (count, len) = [(n, 0), (1, n), (n, 1), (2, n)][k % 4];
     let mut out = vec![];
     put_short(&mut out, count);
     for _ in 0..count {
@@ -107,14 +107,14 @@ pub fn full_list(random: &mut Random) -> Vec<u8> {
 }
 
 /// An envelope with such a list, and a little behind it.
-pub fn full_envelope(random: &mut Random) -> Vec<u8> {
+pub fn full_envelope(random: &mut Random, k: usize) -> Vec<u8> {
     let (first, flags) = *random.pick(&[(0x05, 8), (0x85, 8), (0x84, 10)]);
     let mut body = if flags & 2 != 0 {
         random.bytes(16)
     } else {
         vec![]
     };
-    body.extend(full_list(random));
+    body.extend(full_list(random, k));
     let n = random.below(4);
     body.extend(random.bytes(n));
     let mut out = vec![first, flags, 0, random.byte(), 8];

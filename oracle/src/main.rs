@@ -57,7 +57,7 @@ fn a_stream(
 ) -> Verdict {
     let stream = match k % 2_000 {
         1_999 => streams::stream(random, streams::LARGE, faults_of(k)),
-        _ if k % FULL == 1 => streams::full_stream(random),
+        _ if k % FULL == 1 => streams::full_stream(random, k / FULL),
         _ => streams::stream(random, streams::SMALL, faults_of(k)),
     };
     smallest::on_stream(stream, lent, tally)
@@ -67,7 +67,7 @@ fn a_stream(
 fn an_envelope(random: &mut Random, k: usize, tally: &mut Tally) -> Verdict {
     let mut bytes = match k % 500 {
         499 => envelopes::envelope(random, 140_000, faults_of(k)),
-        _ if k % FULL == 1 => envelopes::full_envelope(random),
+        _ if k % FULL == 1 => envelopes::full_envelope(random, k / FULL),
         _ => envelopes::envelope(random, 300, faults_of(k)),
     };
     match random.below(6) {
@@ -84,8 +84,12 @@ fn an_envelope(random: &mut Random, k: usize, tally: &mut Tally) -> Verdict {
 }
 
 /// A list, or [short bytes], with a count of 32,768 or more and all that it counts, or a byte less.
-fn a_full_notation(random: &mut Random, tally: &mut Tally) -> Verdict {
-    on_bytes(envelopes::full_list(random), tally, judge_notations::list)?;
+fn a_full_notation(random: &mut Random, k: usize, tally: &mut Tally) -> Verdict {
+    on_bytes(
+        envelopes::full_list(random, k),
+        tally,
+        judge_notations::list,
+    )?;
     let (n, less) = (32_768 + random.below(3), random.below(3));
     let mut bytes = (n as u16).to_be_bytes().to_vec();
     bytes.extend(random.bytes(n + 1 - less));
@@ -94,7 +98,7 @@ fn a_full_notation(random: &mut Random, tally: &mut Tally) -> Verdict {
 
 fn a_notation(random: &mut Random, k: usize, tally: &mut Tally) -> Verdict {
     if k % FULL == 1 {
-        a_full_notation(random, tally)?;
+        a_full_notation(random, k / FULL, tally)?;
     }
     on_bytes(
         envelopes::string_list(random, faults_of(k)),

@@ -203,8 +203,8 @@ fn parts(random: &mut Random, form: Form, scale: Scale, faults: Faults) -> Vec<P
     out
 }
 
-/// An envelope with a full list, short ones before it and behind it, in one segment or in a run.
-fn full_parts(random: &mut Random, form: Form) -> Vec<Part> {
+/// An envelope with a full list, short ones before it and behind it, in one segment or, half of the time, in a run.
+fn full_parts(random: &mut Random, form: Form, k: usize) -> Vec<Part> {
     let (good, short) = (
         Faults(0),
         Scale {
@@ -213,10 +213,10 @@ fn full_parts(random: &mut Random, form: Form) -> Vec<Part> {
         },
     );
     let mut joined = envelope(random, short.body, good);
-    joined.extend(full_envelope(random));
+    joined.extend(full_envelope(random, k));
     joined.extend(envelope(random, short.body, good));
     let mut out = parts(random, form, short, good);
-    if random.once_in(2) {
+    if k / 4 % 2 == 0 {
         out.push(part(random, form, good, true, joined));
     } else {
         let behind = joined.split_off(random.below(joined.len()));
@@ -263,9 +263,9 @@ pub fn stream(random: &mut Random, scale: Scale, faults: Faults) -> Stream {
 }
 
 /// A stream with a list of warnings that is longer than the Rust reads.
-pub fn full_stream(random: &mut Random) -> Stream {
+pub fn full_stream(random: &mut Random, k: usize) -> Stream {
     let form = *random.pick(&[Form::Short, Form::Long]);
-    let parts = full_parts(random, form);
+    let parts = full_parts(random, form, k);
     cut(random, form, parts, SIZES)
 }
 
