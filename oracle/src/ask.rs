@@ -16,8 +16,9 @@ fn both(ours: impl Debug, theirs: impl Debug) {
 fn stream(form: Form, bytes: &[u8], sizes: (usize, usize)) {
     let mut reader = ours::Stream::new(form, sizes.0, sizes.1);
     both(reader.feed(bytes), theirs::Decoder::new(form).feed(bytes));
-    let leaves = rules_of_streams::story(form, bytes, sizes).leaves;
-    println!("outside: {:?}", leaves.map(|leaves| leaves.name()));
+    let story = rules_of_streams::story(form, bytes, sizes);
+    println!("by the rules {:?}", story.due(0, bytes.len()));
+    println!("outside: {:?}", story.leaves.map(|leaves| leaves.name()));
 }
 
 /// A kind of input and its bytes, in hexadecimal with blanks between.
