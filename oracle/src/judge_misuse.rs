@@ -1,6 +1,7 @@
 //! Calls of a segment writer in an order that the Rust does not provide for. This library does what the rules say of each, and the Rust what it was seen to do.
 use crate::faults::{self, Fault};
-use crate::judged::{Encoder, Form};
+use crate::judge_segments::{Both, UNTOUCHED};
+use crate::judged::Form;
 use crate::said::Outcome;
 use crate::streams::{Damage, Part, Stream, LARGEST, SIZES};
 use crate::tally::Tally;
@@ -8,49 +9,28 @@ use crate::theirs;
 
 type Verdict = Result<(), String>;
 
-/// What an output holds before anything is written.
-const UNTOUCHED: u8 = 0xee;
 /// The empty self-contained short segment (docs/RULES.md, 13.2).
 const EMPTY: [u8; 10] = [0, 0, 2, 0x6a, 0x36, 0xc4, 0xd3, 0x7e, 0x77, 0x44];
 /// Where a payload begins.
 const HEADER: usize = 6;
 
-struct Both {
-    ours: Encoder,
-    out: Vec<u8>,
-    theirs: theirs::Encoder,
+/// Two writers to which the same was added.
+fn with(payload: &[u8]) -> Result<Both, String> {
+    let (mut both, n) = (Both::new(), payload.len());
+    both.theirs.add(payload);
+    if both.ours.add(&mut both.out, payload) == Ok((n, n)) && holds(&both, payload) {
+        return Ok(both);
+    }
+    Err("segment writer: an envelope added".to_string())
 }
 
-impl Both {
-    fn new() -> Self {
-        Both {
-            ours: Encoder::new(Form::Short),
-            out: vec![UNTOUCHED; LARGEST + 20],
-            theirs: theirs::Encoder::default(),
-        }
-    }
-
-    /// Two writers to which the same was added.
-    fn with(payload: &[u8]) -> Result<Self, String> {
-        let mut both = Both::new();
-        both.theirs.add(payload);
-        let n = payload.len();
-        if both.ours.add(&mut both.out, payload) == Ok((n, n)) && both.holds(payload) {
-            return Ok(both);
-        }
-        Err("segment writer: an envelope added".to_string())
-    }
-
-    /// Whether our writer has just this payload so far, and nothing else stands in its output.
-    fn holds(&self, payload: &[u8]) -> bool {
-        let (front, rest) = self.out.split_at(HEADER);
-        self.ours.payload == payload.len()
-            && rest.starts_with(payload)
-            && front
-                .iter()
-                .chain(&rest[payload.len()..])
-                .all(|b| *b == UNTOUCHED)
-    }
+/// Whether our writer has just this payload so far, and nothing else stands in its output.
+fn holds(both: &Both, payload: &[u8]) -> bool {
+    let (front, rest) = both.out.split_at(HEADER);
+    let mut others = front.iter().chain(&rest[payload.len()..]);
+    both.ours.payload == payload.len()
+        && rest.starts_with(payload)
+        && others.all(|b| *b == UNTOUCHED)
 }
 
 fn class(what: &'static str, ours: bool, rust: bool, tally: &mut Tally) -> Verdict {
@@ -81,14 +61,14 @@ fn too_much_added(tally: &mut Tally) -> Verdict {
     let refused = both.ours.add(&mut both.out, &too_much) == Err(16);
     both.ours.payload += faults::is(Fault::AddChanges) as usize;
     let (is_so, rust) = (
-        refused && both.holds(&[]),
+        refused && holds(&both, &[]),
         is_overfull(both.theirs.finish()),
     );
     class("131,072 bytes added, then finished", is_so, rust, tally)
 }
 
 fn piece_that_fits(tally: &mut Tally) -> Verdict {
-    let mut both = Both::with(b"A")?;
+    let mut both = with(b"A")?;
     let refused = both.ours.piece(&mut both.out, b"B") == Err(17);
     let joined = Stream {
         form: Form::Short,
@@ -101,24 +81,24 @@ fn piece_that_fits(tally: &mut Tally) -> Verdict {
         sizes: SIZES,
     };
     let rust = both.theirs.piece(b"B") == Outcome::Gave((1, joined.bytes()));
-    let is_so = refused && both.holds(b"A");
+    let is_so = refused && holds(&both, b"A");
     class("a byte added, then a piece that fits", is_so, rust, tally)
 }
 
 fn largest_piece(tally: &mut Tally) -> Verdict {
-    let (mut both, piece) = (Both::with(b"A")?, vec![0; LARGEST]);
+    let (mut both, piece) = (with(b"A")?, vec![0; LARGEST]);
     let refused = both.ours.piece(&mut both.out, &piece) == Err(17);
     let rust = is_overfull(match both.theirs.piece(&piece) {
         Outcome::Gave((_, segment)) => Outcome::Gave(segment),
         Outcome::Refused(number) => Outcome::Refused(number),
         Outcome::Panicked => Outcome::Panicked,
     });
-    let is_so = refused && both.holds(b"A");
+    let is_so = refused && holds(&both, b"A");
     class("a byte added, then a piece of 131,071", is_so, rust, tally)
 }
 
 fn finished_twice(tally: &mut Tally) -> Verdict {
-    let mut both = Both::with(b"AB")?;
+    let mut both = with(b"AB")?;
     let Outcome::Gave(first) = both.theirs.finish() else {
         return class("finished twice", true, false, tally);
     };

@@ -1,10 +1,9 @@
-//! Envelopes written, and short segments packed and split.
+//! Envelopes written.
 use crate::envelopes::good_text;
 use crate::faults::{self, Fault};
-use crate::judged::{self, Encoder, Form, Header};
+use crate::judged::{self, Header};
 use crate::random::Random;
 use crate::said::{hex, Outcome};
-use crate::streams::LARGEST;
 use crate::tally::Tally;
 use crate::{judge_envelopes, theirs};
 
@@ -227,96 +226,5 @@ fn brief(outcome: &Outcome<Vec<u8>>) -> String {
         Outcome::Gave(bytes) => hex(bytes),
         Outcome::Refused(number) => format!("refused {number}"),
         Outcome::Panicked => "panicked, or wrote behind its end".to_string(),
-    }
-}
-
-/// Envelopes that are added while they fit, and then the segment.
-pub fn pack(envelopes: &[Vec<u8>], tally: &mut Tally) -> Result<(), String> {
-    let (mut ours, mut theirs, mut out, mut payload) = (
-        Encoder::new(Form::Short),
-        theirs::Encoder::default(),
-        vec![0xee; LARGEST + 20],
-        0,
-    );
-    let shown = || {
-        envelopes
-            .iter()
-            .map(|e| hex(e))
-            .collect::<Vec<_>>()
-            .join(" | ")
-    };
-    tally.compared("segments packed");
-    for envelope in envelopes {
-        let fits = theirs.can_fit(envelope.len());
-        let added = ours.can_fit(envelope.len()) == fits
-            && match ours.add(&mut out, envelope) {
-                Ok(counts) => fits && counts == (envelope.len(), envelope.len()),
-                Err(number) => !fits && number == 16,
-            };
-        if fits {
-            theirs.add(envelope);
-            payload += envelope.len();
-        } else {
-            tally.refused("segments packed", 16);
-        }
-        if !added || ours.payload != payload || ours.has_envelopes() != theirs.has_envelopes() {
-            return Err(format!("an envelope added\n  {}", shown()));
-        }
-    }
-    match (ours.finish(&mut out), theirs.finish()) {
-        (Ok((n, 0)), Outcome::Gave(theirs))
-            if ours == Encoder::new(Form::Short)
-                && out[..n] == theirs
-                && out[n..].iter().all(|b| *b == 0xee) =>
-        {
-            Ok(())
-        }
-        (ours, theirs) => Err(format!(
-            "a segment packed\n  {}\n  ours {ours:?} {}\n  Rust {theirs:?}",
-            shown(),
-            hex(&out)
-        )),
-    }
-}
-
-/// How many bytes a piece took, and the segment, behind which nothing changed.
-fn our_piece(ours: &mut Encoder, out: &mut [u8], rest: &[u8]) -> Outcome<(usize, Vec<u8>)> {
-    match ours.piece(out, rest) {
-        Ok((n, mut taken)) => {
-            out[n] ^= faults::is(Fault::BehindPiece) as u8;
-            taken -= (faults::is(Fault::PieceLess) && taken == LARGEST) as usize;
-            if out[n..].iter().any(|b| *b != 0xee) {
-                return Outcome::Panicked;
-            }
-            Outcome::Gave((taken, out[..n].to_vec()))
-        }
-        Err(number) => Outcome::Refused(number),
-    }
-}
-
-/// An envelope in pieces, each a segment.
-pub fn split(envelope: &[u8], tally: &mut Tally) -> Result<(), String> {
-    let (mut ours, mut theirs, mut start) =
-        (Encoder::new(Form::Short), theirs::Encoder::default(), 0);
-    loop {
-        let (rest, mut out) = (&envelope[start..], vec![0xee; LARGEST + 20]);
-        tally.compared("pieces written");
-        let written = our_piece(&mut ours, &mut out, rest);
-        let theirs_said = theirs.piece(rest);
-        theirs.reset();
-        match (written, theirs_said) {
-            (Outcome::Gave(a), Outcome::Gave(b)) if a == b => start += a.0,
-            (a, b) => {
-                return Err(format!(
-                    "a piece\n  {}\n  ours {:?}\n  Rust {:?}",
-                    hex(rest),
-                    a.end(),
-                    b.end()
-                ))
-            }
-        }
-        if start >= envelope.len() {
-            return Ok(());
-        }
     }
 }

@@ -2,7 +2,7 @@
 use crate::judge_writing::{self, Fields};
 use crate::judged::Header;
 use crate::tally::Tally;
-use crate::{judge_misuse, judge_notations};
+use crate::{judge_misuse, judge_notations_written};
 
 type Verdict = Result<(), String>;
 
@@ -16,8 +16,8 @@ const RESPONSE: Header = Header {
 
 fn notations(tally: &mut Tally) -> Verdict {
     for n in [65_535, 65_536, 65_537, 131_072] {
-        judge_notations::write_text(&"a".repeat(n), tally)?;
-        judge_notations::write_bytes(&vec![0x62; n], tally)?;
+        judge_notations_written::text(&"a".repeat(n), tally)?;
+        judge_notations_written::bytes(&vec![0x62; n], tally)?;
     }
     Ok(())
 }

@@ -12,6 +12,8 @@ mod judge_checks;
 mod judge_envelopes;
 mod judge_misuse;
 mod judge_notations;
+mod judge_notations_written;
+mod judge_segments;
 mod judge_streams;
 mod judge_writing;
 mod known;
@@ -120,9 +122,9 @@ fn a_notation(random: &mut Random, k: usize, tally: &mut Tally) -> Verdict {
     let from = bytes.len().min(2);
     on_bytes(bytes[from..].to_vec(), tally, judge_notations::short_bytes)?;
     let bits = random.next() >> random.below(64);
-    judge_notations::write_numbers(bits, tally)?;
-    judge_notations::write_text(&String::from_utf8_lossy(&bytes), tally)?;
-    judge_notations::write_bytes(&bytes, tally)
+    judge_notations_written::numbers(bits, tally)?;
+    judge_notations_written::text(&String::from_utf8_lossy(&bytes), tally)?;
+    judge_notations_written::bytes(&bytes, tally)
 }
 
 fn a_writing(random: &mut Random, k: usize, tally: &mut Tally) -> Verdict {
@@ -143,7 +145,7 @@ fn a_writing(random: &mut Random, k: usize, tally: &mut Tally) -> Verdict {
     smallest::on(
         parts,
         smallest::simpler_lists,
-        |parts, tally| judge_writing::pack(parts, tally),
+        |parts, tally| judge_segments::pack(parts, tally),
         tally,
     )?;
     let n = if k % 200 == 0 {
@@ -151,7 +153,7 @@ fn a_writing(random: &mut Random, k: usize, tally: &mut Tally) -> Verdict {
     } else {
         random.below(70)
     };
-    on_bytes(random.bytes(n), tally, judge_writing::split)
+    on_bytes(random.bytes(n), tally, judge_segments::split)
 }
 
 fn a_check(random: &mut Random, k: usize, tally: &mut Tally) -> Verdict {
