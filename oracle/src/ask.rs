@@ -1,7 +1,7 @@
 //! Both answers to one input, for a person.
 use crate::judge_notations;
 use crate::judged::{Form, Notation};
-use crate::{ours, rules, theirs};
+use crate::{ours, rules_of_streams, theirs};
 use std::fmt::Debug;
 
 fn unhex(words: &[&str]) -> Result<Vec<u8>, String> {
@@ -16,10 +16,9 @@ fn both(ours: impl Debug, theirs: impl Debug) {
 fn stream(form: Form, bytes: &[u8], sizes: (usize, usize)) {
     let mut reader = ours::Stream::new(form, sizes.0, sizes.1);
     both(reader.feed(bytes), theirs::Decoder::new(form).feed(bytes));
-    println!(
-        "outside: {:?}",
-        rules::leaves(form, bytes, sizes).map(|leaves| leaves.name())
-    );
+    let story = rules_of_streams::story(form, bytes, sizes);
+    println!("by the rules {:?}", story.due(0, bytes.len()));
+    println!("outside: {:?}", story.leaves.map(|leaves| leaves.name()));
 }
 
 /// A kind of input and its bytes, in hexadecimal with blanks between.

@@ -86,6 +86,43 @@ pub fn string_list(random: &mut Random, faults: Faults) -> Vec<u8> {
     out
 }
 
+/// A list with a count of 32,768 or a little more, of strings or, every second time, of the bytes in one, and all that is counted. Now and then the last text
+/// is no text, or its last byte is missing.
+pub fn full_list(random: &mut Random, k: usize) -> Vec<u8> {
+    let n = 32_768 + random.below(3);
+    let (count, len) = [(n, 0), (1, n), (n, 1), (2, n)][k % 4];
+    let mut out = vec![];
+    put_short(&mut out, count);
+    for _ in 0..count {
+        put_short(&mut out, len);
+        out.extend(vec![b'w'; len]);
+    }
+    let last = out.len() - 1;
+    match random.below(6) {
+        0 => out[last] = 0xff,
+        1 => out.truncate(last),
+        _ => {}
+    }
+    out
+}
+
+/// An envelope with such a list, and a little behind it.
+pub fn full_envelope(random: &mut Random, k: usize) -> Vec<u8> {
+    let (first, flags) = *random.pick(&[(0x05, 8), (0x85, 8), (0x84, 10)]);
+    let mut body = if flags & 2 != 0 {
+        random.bytes(16)
+    } else {
+        vec![]
+    };
+    body.extend(full_list(random, k));
+    let n = random.below(4);
+    body.extend(random.bytes(n));
+    let mut out = vec![first, flags, 0, random.byte(), 8];
+    out.extend_from_slice(&(body.len() as u32).to_be_bytes());
+    out.extend(body);
+    out
+}
+
 /// The header's length is that of the body, or near it, or far from it.
 fn length(random: &mut Random, body: usize, faults: Faults) -> i32 {
     if !faults.here(random) {

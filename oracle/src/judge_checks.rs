@@ -1,12 +1,13 @@
 //! Both checks, and what counts as text.
+use crate::faults::{self, Fault};
 use crate::said::hex;
 use crate::tally::Tally;
-use crate::{faults, judged, theirs};
+use crate::{judged, theirs};
 
 pub fn checks(bytes: &[u8], tally: &mut Tally) -> Result<(), String> {
     let ours = (
         judged::crc24(bytes),
-        judged::crc32(bytes) ^ (faults::is(7) && bytes.len() == 5) as u32,
+        judged::crc32(bytes) ^ (faults::is(Fault::Crc32Bit) && bytes.len() == 5) as u32,
     );
     let theirs = (theirs::crc24(bytes), theirs::crc32(bytes));
     tally.compared("both checks");

@@ -1,19 +1,20 @@
 //! Single envelopes: the whole reading, and the size check.
-use crate::rules::{self, First, Front, Outside};
+use crate::faults::{self, Fault};
+use crate::rules::{self, Outside};
 use crate::said::{hex, End, Envelope, Outcome, Parsed};
 use crate::tally::Tally;
 use crate::theirs::CHECKED;
-use crate::{faults, ours, theirs};
+use crate::{ours, theirs};
 
 /// The planted faults of a reading.
 pub fn spoil(envelope: &mut Envelope) {
-    if faults::is(1) && envelope.version == 4 {
+    if faults::is(Fault::StreamNumber) && envelope.version == 4 {
         envelope.stream = envelope.stream.wrapping_add(1);
     }
-    if faults::is(2) && envelope.body.len() == 7 {
+    if faults::is(Fault::LastOfSeven) && envelope.body.len() == 7 {
         envelope.body.pop();
     }
-    if faults::is(3) && envelope.warnings.len() == 2 {
+    if faults::is(Fault::WarningsExchanged) && envelope.warnings.len() == 2 {
         envelope.warnings.swap(0, 1);
     }
 }
@@ -22,8 +23,14 @@ fn our_parse(bytes: &[u8]) -> Parsed {
     let mut answer = ours::parse(bytes);
     if let Outcome::Gave(Some((_, envelope))) = &mut answer {
         spoil(envelope);
+        if faults::is(Fault::ManyOfEnvelope) && envelope.warnings.len() > 32_767 {
+            envelope.warnings.pop();
+        }
+        if faults::is(Fault::BodyBehindLong) && envelope.warnings.iter().any(|w| w.len() > 32_767) {
+            envelope.body.clear();
+        }
     }
-    if faults::is(4) && answer == Outcome::Refused(10) {
+    if faults::is(Fault::OpcodeAsVersion) && answer == Outcome::Refused(10) {
         return Outcome::Refused(9);
     }
     answer
@@ -31,7 +38,9 @@ fn our_parse(bytes: &[u8]) -> Parsed {
 
 fn our_size(bytes: &[u8]) -> Outcome<usize> {
     match ours::size(bytes) {
-        Outcome::Gave(n) if faults::is(5) && n > 0 && bytes[0] & 0x7f == 3 => Outcome::Gave(n + 1),
+        Outcome::Gave(n) if faults::is(Fault::SizeMore) && n > 0 && bytes[0] & 0x7f == 3 => {
+            Outcome::Gave(n + 1)
+        }
         answer => answer,
     }
 }
@@ -49,31 +58,28 @@ pub fn rust_end(why: Outside, bytes: &[u8]) -> End {
     }
 }
 
-/// Whether an answer of this library is what the rules say.
-fn is_by_rules(front: Front, answer: &Parsed) -> bool {
-    match (front.first, answer) {
-        (First::Incomplete, Outcome::Gave(None)) => true,
-        (First::Whole(n), Outcome::Gave(Some((size, _)))) => n == *size,
-        (First::Refused(a), Outcome::Refused(b)) => a == *b,
-        _ => false,
-    }
+/// Whether the Rust does what it was seen to do where an envelope is outside in this way.
+fn is_rust_by_class(why: Outside, bytes: &[u8], theirs: &Parsed) -> bool {
+    theirs.end() == rust_end(why, bytes)
+        && (why != Outside::LengthFarBelowZero || *theirs == Outcome::Gave(None))
 }
 
+/// This library is held to the rules, whatever the input; the Rust to this library, or to what its class says.
 pub fn parse(bytes: &[u8], tally: &mut Tally) -> Result<(), String> {
     let (ours, theirs, front) = (our_parse(bytes), theirs::parse(bytes), rules::front(bytes));
     tally.compared("envelopes read");
     let agree = match front.outside {
         None => ours == theirs,
         Some(why) => {
-            tally.outside("envelope", format!("{why:?}"), || hex(bytes));
-            theirs.end() == rust_end(why, bytes)
-                && (why != Outside::LengthFarBelowZero || theirs == Outcome::Gave(None))
+            let class = rules::class_name(why, front.is_whole());
+            tally.outside("envelope", class, || hex(bytes));
+            is_rust_by_class(why, bytes, &theirs)
         }
     };
     if let (None, Outcome::Refused(number)) = (front.outside, &ours) {
         tally.refused("envelopes read", *number);
     }
-    if agree && is_by_rules(front, &ours) {
+    if agree && ours == front.due {
         return Ok(());
     }
     Err(format!("an envelope read\n  bytes {}\n  ours  {ours:?}\n  Rust  {theirs:?}\n  by the rules {front:?}", hex(bytes)))
@@ -95,14 +101,14 @@ pub fn size(bytes: &[u8], tally: &mut Tally) -> Result<(), String> {
     let agree = match front.outside {
         Some(why @ (Outside::LengthBelowZero | Outside::LengthFarBelowZero)) => {
             tally.outside("size check", format!("{why:?}"), || hex(bytes));
-            ours == Outcome::Refused(8) && theirs == rust_size(why, bytes)
+            theirs == rust_size(why, bytes)
         }
         _ => ours == theirs,
     };
     if let (true, Outcome::Refused(number)) = (ours == theirs, &ours) {
         tally.refused("size checks", *number);
     }
-    if agree {
+    if agree && ours == rules::size(bytes).into() {
         return Ok(());
     }
     Err(format!(

@@ -10,13 +10,19 @@ mod exhaustive;
 mod faults;
 mod judge_checks;
 mod judge_envelopes;
+mod judge_misuse;
 mod judge_notations;
+mod judge_notations_written;
+mod judge_segments;
 mod judge_streams;
 mod judge_writing;
+mod known;
+mod long_inputs;
 mod ours;
 mod random;
 mod record;
 mod rules;
+mod rules_of_streams;
 mod said;
 mod smallest;
 mod streams;
@@ -24,6 +30,7 @@ mod tally;
 mod theirs;
 
 use envelopes::Faults;
+use faults::Inputs;
 use random::Random;
 use smallest::on_bytes;
 use tally::Tally;
@@ -41,27 +48,30 @@ fn faults_of(k: usize) -> Faults {
     Faults([0, 40, 12, 4][k % 4])
 }
 
+/// Once in so many inputs comes one with counts of 32,768 and more and all that they count.
+const FULL: usize = 500;
+
 fn a_stream(
     random: &mut Random,
     k: usize,
     lent: &mut judge_streams::Lent,
     tally: &mut Tally,
 ) -> Verdict {
-    let scale = if k % 2_000 == 1_999 {
-        streams::LARGE
-    } else {
-        streams::SMALL
+    let stream = match k % 2_000 {
+        1_999 => streams::stream(random, streams::LARGE, faults_of(k)),
+        _ if k % FULL == 1 => streams::full_stream(random, k / FULL),
+        _ => streams::stream(random, streams::SMALL, faults_of(k)),
     };
-    smallest::on_stream(streams::stream(random, scale, faults_of(k)), lent, tally)
+    smallest::on_stream(stream, lent, tally)
 }
 
 /// An envelope with bytes behind it, or without its last ones.
 fn an_envelope(random: &mut Random, k: usize, tally: &mut Tally) -> Verdict {
-    let mut bytes = envelopes::envelope(
-        random,
-        if k % 500 == 499 { 140_000 } else { 300 },
-        faults_of(k),
-    );
+    let mut bytes = match k % 500 {
+        499 => envelopes::envelope(random, 140_000, faults_of(k)),
+        _ if k % FULL == 1 => envelopes::full_envelope(random, k / FULL),
+        _ => envelopes::envelope(random, 300, faults_of(k)),
+    };
     match random.below(6) {
         0 => bytes.truncate(random.below(bytes.len() + 1)),
         1 => bytes.extend(random.bytes(5)),
@@ -75,7 +85,23 @@ fn an_envelope(random: &mut Random, k: usize, tally: &mut Tally) -> Verdict {
     on_bytes(bytes, tally, judge_envelopes::size)
 }
 
+/// A list, or [short bytes], with a count of 32,768 or more and all that it counts, or a byte less.
+fn a_full_notation(random: &mut Random, k: usize, tally: &mut Tally) -> Verdict {
+    on_bytes(
+        envelopes::full_list(random, k),
+        tally,
+        judge_notations::list,
+    )?;
+    let (n, less) = (32_768 + random.below(3), random.below(3));
+    let mut bytes = (n as u16).to_be_bytes().to_vec();
+    bytes.extend(random.bytes(n + 1 - less));
+    on_bytes(bytes, tally, judge_notations::short_bytes)
+}
+
 fn a_notation(random: &mut Random, k: usize, tally: &mut Tally) -> Verdict {
+    if k % FULL == 1 {
+        a_full_notation(random, k / FULL, tally)?;
+    }
     on_bytes(
         envelopes::string_list(random, faults_of(k)),
         tally,
@@ -96,9 +122,9 @@ fn a_notation(random: &mut Random, k: usize, tally: &mut Tally) -> Verdict {
     let from = bytes.len().min(2);
     on_bytes(bytes[from..].to_vec(), tally, judge_notations::short_bytes)?;
     let bits = random.next() >> random.below(64);
-    judge_notations::write_numbers(bits, tally)?;
-    judge_notations::write_text(&String::from_utf8_lossy(&bytes), tally)?;
-    judge_notations::write_bytes(&bytes, tally)
+    judge_notations_written::numbers(bits, tally)?;
+    judge_notations_written::text(&String::from_utf8_lossy(&bytes), tally)?;
+    judge_notations_written::bytes(&bytes, tally)
 }
 
 fn a_writing(random: &mut Random, k: usize, tally: &mut Tally) -> Verdict {
@@ -119,7 +145,7 @@ fn a_writing(random: &mut Random, k: usize, tally: &mut Tally) -> Verdict {
     smallest::on(
         parts,
         smallest::simpler_lists,
-        |parts, tally| judge_writing::pack(parts, tally),
+        |parts, tally| judge_segments::pack(parts, tally),
         tally,
     )?;
     let n = if k % 200 == 0 {
@@ -127,7 +153,7 @@ fn a_writing(random: &mut Random, k: usize, tally: &mut Tally) -> Verdict {
     } else {
         random.below(70)
     };
-    on_bytes(random.bytes(n), tally, judge_writing::split)
+    on_bytes(random.bytes(n), tally, judge_segments::split)
 }
 
 fn a_check(random: &mut Random, k: usize, tally: &mut Tally) -> Verdict {
@@ -139,59 +165,12 @@ fn a_check(random: &mut Random, k: usize, tally: &mut Tally) -> Verdict {
     on_bytes(random.bytes(n), tally, judge_checks::checks)
 }
 
-/// Inputs that are too long to be made often.
-fn long_ones(tally: &mut Tally) -> Verdict {
-    for n in [65_535, 65_536, 65_537, 131_072] {
-        judge_notations::write_text(&"a".repeat(n), tally)?;
-        judge_notations::write_bytes(&vec![0x62; n], tally)?;
-    }
-    let header = judged::Header {
-        version: 5,
-        is_response: true,
-        flags: 8,
-        stream: 1,
-        opcode: 2,
-    };
-    for (count, len) in [
-        (65_535, 0),
-        (65_536, 0),
-        (1, 65_535),
-        (1, 65_536),
-        (32_768, 1),
-        (1, 32_768),
-    ] {
-        let warnings = vec!["w".repeat(len); count];
-        judge_writing::envelope(
-            &judge_writing::Fields {
-                header,
-                id: None,
-                warnings,
-                body: vec![7],
-            },
-            tally,
-        )?;
-    }
-    let header = judged::Header { flags: 0, ..header };
-    for n in [268_435_456, 268_435_457] {
-        judge_writing::envelope(
-            &judge_writing::Fields {
-                header,
-                id: None,
-                warnings: vec![],
-                body: vec![0; n],
-            },
-            tally,
-        )?;
-    }
-    judge_writing::misused(tally)
-}
-
 fn compare(streams: usize, envelopes: usize, seed: u64, tally: &mut Tally) -> Verdict {
     let (mut random, mut lent) = (Random::new(seed), judge_streams::Lent::new());
     exhaustive::all(&mut random, 6 + streams / 5_000, tally)?;
     judge_checks::all_short_headers(tally)?;
     judge_checks::all_short_texts(if streams < 500_000 { 7 } else { 1 }, tally)?;
-    long_ones(tally)?;
+    long_inputs::all(tally)?;
     (0..streams).try_for_each(|k| a_stream(&mut random, k, &mut lent, tally))?;
     for k in 0..envelopes {
         an_envelope(&mut random, k, tally)?;
@@ -206,13 +185,18 @@ fn compare(streams: usize, envelopes: usize, seed: u64, tally: &mut Tally) -> Ve
 
 /// Each planted fault has to be found.
 fn find_faults(seed: u64) -> Verdict {
-    for (k, name) in faults::NAMES.iter().enumerate() {
-        faults::plant(k + 1);
-        match find_fault(seed) {
+    for (fault, inputs, name) in faults::ALL {
+        faults::plant(*fault);
+        let found = match inputs {
+            Inputs::Drawn => find_fault(seed),
+            Inputs::Long => long_inputs::all(&mut Tally::default()),
+        };
+        match found {
             Ok(()) => return Err(format!("not found: {name}")),
-            Err(difference) => println!("{name}: found in {difference}"),
+            Err(difference) => println!("{name}: found in {}", said::cut(&difference)),
         }
     }
+    println!("{} faults, all found", faults::ALL.len());
     Ok(())
 }
 
@@ -246,7 +230,8 @@ fn compare_and_print(streams: &str, envelopes: &str, seed: &str) -> Verdict {
         &mut tally,
     );
     tally.print();
-    verdict
+    verdict?;
+    known::all_came_up(streams.min(envelopes), &tally)
 }
 
 fn run(words: &[&str]) -> Verdict {
@@ -272,7 +257,7 @@ fn main() {
         }
         Ok(()) => {}
         Err(why) => {
-            println!("the Rust {build} overflow checks: {why}");
+            println!("the Rust {build} overflow checks: {}", said::cut(&why));
             std::process::exit(1);
         }
     }

@@ -1,6 +1,6 @@
 //! This library, in the words of both.
-use crate::judged::{self, Answer, Form, Parsed as Read, Reader, Reading, Walked};
-use crate::said::{Envelope, Outcome, Parsed};
+use crate::judged::{self, Form, Parsed as Read, Reader, Reading, Walked};
+use crate::said::{Answer, Dated, Envelope, Outcome, Parsed};
 
 /// The texts of a list, each by the call that steps through it.
 fn texts(bytes: &[u8], from: judged::Walk) -> Vec<Vec<u8>> {
@@ -58,19 +58,12 @@ pub fn string_list(bytes: &[u8]) -> Outcome<(Vec<Vec<u8>>, usize)> {
     }
 }
 
-/// What came of a piece that was used up.
-#[derive(Clone, Debug, PartialEq, Eq)]
-pub struct Heard {
-    pub envelopes: Vec<Envelope>,
-    pub leftovers: usize,
-    pub refused: Option<u8>,
-}
-
-/// The reader and the buffers that it is lent.
+/// The reader, the buffers that it is lent, and how many bytes of the stream it took.
 pub struct Stream {
     reader: Reader,
     segment: Vec<u8>,
     reassembly: Vec<u8>,
+    taken: usize,
 }
 
 impl Stream {
@@ -79,49 +72,59 @@ impl Stream {
             reader: Reader::new(form, segment_len, reassembly_len),
             segment: vec![0xee; segment_len],
             reassembly: vec![0xee; reassembly_len],
+            taken: 0,
         }
     }
 
     /// Begins anew, over buffers that keep what they hold.
     pub fn restart(&mut self, form: Form) {
         self.reader = Reader::new(form, self.segment.len(), self.reassembly.len());
+        self.taken = 0;
     }
 
     pub fn held(&self) -> usize {
         self.reader.held()
     }
 
-    /// Calls with what is left of the piece until *more* or a refusal comes.
-    pub fn feed(&mut self, piece: &[u8]) -> Heard {
-        let mut heard = Heard {
-            envelopes: vec![],
-            leftovers: 0,
-            refused: None,
-        };
-        let (mut start, mut calls) = (0, self.reader.held() + piece.len() + 1);
-        loop {
-            let call = self
-                .reader
-                .read(&mut self.segment, &mut self.reassembly, &piece[start..]);
-            start += call.taken;
-            // Too much taken, or no end of answers: a refusal that there is not shows as a difference.
-            if start > piece.len() || calls == 0 {
-                heard.refused = Some(u8::MAX);
-                return heard;
+    /// One answer to what is left of the piece, and how many bytes of it were taken; none for *more*.
+    fn call(&mut self, rest: &[u8]) -> (Option<Answer>, usize) {
+        let call = self
+            .reader
+            .read(&mut self.segment, &mut self.reassembly, rest);
+        let answer = match call.answer {
+            judged::Answer::Envelope(which, place, reading) => {
+                let bytes = judged::stream_part(which, &self.segment, &self.reassembly, place);
+                Some(Answer::Envelope(plain(&bytes, &reading)))
             }
-            calls -= 1;
-            match call.answer {
-                Answer::Envelope(which, place, reading) => {
-                    let bytes = judged::stream_part(which, &self.segment, &self.reassembly, place);
-                    heard.envelopes.push(plain(&bytes, &reading));
-                }
-                Answer::Leftover(n) => heard.leftovers += n,
-                Answer::Refused(number) => {
-                    heard.refused = Some(number);
+            judged::Answer::Leftover(n) => Some(Answer::Leftover(n)),
+            judged::Answer::Refused(number) => Some(Answer::Refused(number)),
+            judged::Answer::More => None,
+        };
+        (answer, call.taken)
+    }
+
+    /// Calls with what is left of the piece until *more* or a refusal comes, and tells all answers but *more*.
+    pub fn feed(&mut self, piece: &[u8]) -> Vec<Dated> {
+        let (mut heard, mut start) = (vec![], 0);
+        for _ in 0..=self.reader.held() + piece.len() {
+            let (answer, taken) = self.call(&piece[start..]);
+            start += taken;
+            if start > piece.len() {
+                break;
+            }
+            self.taken += taken;
+            match answer {
+                Some(Answer::Refused(number)) => {
+                    heard.push((self.taken, Answer::Refused(number)));
                     return heard;
                 }
-                Answer::More => return heard,
+                Some(answer) => heard.push((self.taken, answer)),
+                None if start == piece.len() => return heard,
+                None => break,
             }
         }
+        // Too much taken, too little, or no end of answers: a refusal that there is not shows as a difference.
+        heard.push((self.taken, Answer::Refused(u8::MAX)));
+        heard
     }
 }

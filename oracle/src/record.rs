@@ -4,7 +4,8 @@ use crate::envelopes::{self, Faults};
 use crate::judge_writing::{self, Fields};
 use crate::judged::Form;
 use crate::random::Random;
-use crate::said::{Envelope, Outcome};
+use crate::rules_of_streams::story;
+use crate::said::{self, Envelope, Outcome};
 use crate::streams::{self, Scale, LARGEST, SIZES};
 use crate::{ours, rules, theirs};
 use std::collections::BTreeMap;
@@ -57,7 +58,7 @@ fn envelope(e: &Envelope) -> String {
 }
 
 /// The answer in words; nothing where the Rust panicked or its error has no number.
-fn said<T>(outcome: Outcome<T>, give: impl FnOnce(T) -> String) -> Option<String> {
+fn in_words<T>(outcome: Outcome<T>, give: impl FnOnce(T) -> String) -> Option<String> {
     match outcome {
         Outcome::Gave(value) => Some(give(value)),
         Outcome::Refused(0) | Outcome::Panicked => None,
@@ -98,17 +99,17 @@ impl List {
                 format!("whole {n}")
             }
         };
-        self.bytes("size", bytes, said(theirs::size(bytes), size));
+        self.bytes("size", bytes, in_words(theirs::size(bytes), size));
         let parsed = |answer: Option<(usize, Envelope)>| {
             answer.map_or("incomplete".to_string(), |(n, e)| {
                 format!("whole {n} {}", envelope(&e))
             })
         };
-        self.bytes("parse", bytes, said(theirs::parse(bytes), parsed));
+        self.bytes("parse", bytes, in_words(theirs::parse(bytes), parsed));
     }
 
     fn stream(&mut self, form: Form, bytes: &[u8], cut: usize) {
-        if rules::leaves(form, bytes, SIZES).is_some() {
+        if story(form, bytes, SIZES).leaves.is_some() {
             return;
         }
         let (mut decoder, mut reader, mut words, mut like) = (
@@ -118,7 +119,7 @@ impl List {
             "more".to_string(),
         );
         for piece in [&bytes[..cut], &bytes[cut..]] {
-            match (decoder.feed(piece), reader.feed(piece).envelopes) {
+            match (decoder.feed(piece), said::envelopes(&reader.feed(piece))) {
                 (Outcome::Gave(all), _) => {
                     words.extend(all.iter().map(|e| format!("env {}; ", envelope(e))));
                     words.push("more; ".to_string());
@@ -156,19 +157,19 @@ impl List {
             let list = |(texts, next): (Vec<Vec<u8>>, usize)| {
                 format!("strings {}{} next {next}", texts.len(), spelt_all(&texts))
             };
-            self.bytes("list", bytes, said(theirs::string_list(bytes), list));
+            self.bytes("list", bytes, in_words(theirs::string_list(bytes), list));
         }
         self.bytes(
             "int",
             bytes,
-            said(theirs::int(bytes), |(x, next)| {
+            in_words(theirs::int(bytes), |(x, next)| {
                 format!("value {x} next {next}")
             }),
         );
         self.bytes(
             "long",
             bytes,
-            said(theirs::long(bytes), |(x, next)| {
+            in_words(theirs::long(bytes), |(x, next)| {
                 format!("value {x} next {next}")
             }),
         );
@@ -178,10 +179,14 @@ impl List {
             })
         };
         if bytes.len() < 4 || bytes[0] == 0 || bytes[0] > 0x7f {
-            self.bytes("bytes", bytes, said(theirs::bytes(bytes), part));
+            self.bytes("bytes", bytes, in_words(theirs::bytes(bytes), part));
         }
         if bytes.len() < 2 || bytes[0] < 0x80 {
-            self.bytes("shortbytes", bytes, said(theirs::short_bytes(bytes), part));
+            self.bytes(
+                "shortbytes",
+                bytes,
+                in_words(theirs::short_bytes(bytes), part),
+            );
         }
     }
 
@@ -226,7 +231,7 @@ impl List {
             header.version, header.flags, header.stream, header.opcode
         );
         let question = format!("{first} {} {lengths} {}", spelt(&text), spelt(&fields.body));
-        let answer = said(
+        let answer = in_words(
             theirs::encode(header, fields.id, &fields.warnings, &fields.body),
             |bytes| format!("wrote {}", spelt(&bytes)),
         );
@@ -247,7 +252,7 @@ impl List {
                 writer.add(envelope);
             }
         }
-        let answer = said(writer.finish(), |segment| {
+        let answer = in_words(writer.finish(), |segment| {
             format!("{} wrote {}", fits.join(" "), spelt(&segment))
         });
         self.ask(
@@ -258,7 +263,7 @@ impl List {
     }
 
     fn piece(&mut self, envelope: &[u8]) {
-        let answer = said(
+        let answer = in_words(
             theirs::Encoder::default().piece(envelope),
             |(taken, segment)| format!("took {taken} wrote {}", spelt(&segment)),
         );

@@ -1,6 +1,6 @@
-//! What an input is by the rules (docs/RULES.md), read off its bytes once and plainly, without either side: where a stream leaves the part on which the two
-//! must agree, and what stands there.
-use crate::judged::Form;
+//! What an input is by the rules (docs/RULES.md), read off its bytes once and plainly, without either side: the value or refusal that is due, and what stands
+//! there that is outside the part on which the two must agree.
+use crate::said::{Envelope, Outcome, Parsed};
 
 /// Why an input is outside the part on which the two must agree.
 #[derive(Clone, Copy, Debug, PartialEq, Eq, PartialOrd, Ord)]
@@ -21,19 +21,26 @@ pub enum Outside {
     ReassemblyTooShort,
 }
 
-#[derive(Clone, Copy, Debug, PartialEq, Eq)]
-pub enum First {
-    Incomplete,
-    Whole(usize),
-    Refused(u8),
+/// The name of a class: two of them can be whole all the same, which is a class of its own.
+pub fn class_name(why: Outside, is_whole: bool) -> String {
+    format!("{why:?}{}", if is_whole { ", whole" } else { "" })
 }
 
-/// What stands at the front of some bytes, and the first thing there that is outside.
-#[derive(Clone, Copy, Debug, PartialEq, Eq)]
+/// What is due of the front of some bytes, and the first thing there that is outside.
+#[derive(Clone, Debug, PartialEq, Eq)]
 pub struct Front {
-    pub first: First,
+    pub due: Parsed,
     pub outside: Option<Outside>,
 }
+
+impl Front {
+    pub fn is_whole(&self) -> bool {
+        matches!(self.due, Outcome::Gave(Some(_)))
+    }
+}
+
+/// A value and where it ends, or the number of the refusal.
+pub type Noted<T> = Result<(T, usize), u8>;
 
 const OPCODES: [u8; 16] = [0, 1, 2, 3, 5, 6, 7, 8, 9, 10, 11, 12, 13, 14, 15, 16];
 
@@ -53,227 +60,125 @@ fn count(bytes: &[u8], at: usize) -> Option<usize> {
     Some(u16::from_be_bytes([*bytes.get(at)?, *bytes.get(at + 1)?]) as usize)
 }
 
-/// A list of strings at the front: where it ends or what is wrong with it, and the first thing that is outside.
-pub fn string_list(bytes: &[u8]) -> (Result<usize, u8>, Option<Outside>) {
+fn text(bytes: &[u8]) -> Result<Vec<u8>, u8> {
+    std::str::from_utf8(bytes).map_or(Err(13), |text| Ok(text.as_bytes().to_vec()))
+}
+
+/// A string at a place, and the first thing of it that is outside.
+fn string(bytes: &[u8], at: usize) -> (Noted<Vec<u8>>, Option<Outside>) {
+    let Some(len) = count(bytes, at) else {
+        return (Err(12), Some(Outside::CountCutShort));
+    };
+    let outside = (len > 32_767).then_some(Outside::LongString);
+    let end = at + 2 + len;
+    match bytes.get(at + 2..end) {
+        None => (Err(12), outside.or(Some(Outside::TextPastEnd))),
+        Some(part) => (text(part).map(|text| (text, end)), outside),
+    }
+}
+
+/// A list of strings at the front, and the first thing of it that is outside.
+pub fn string_list(bytes: &[u8]) -> (Noted<Vec<Vec<u8>>>, Option<Outside>) {
     let Some(n) = count(bytes, 0) else {
         return (Err(12), Some(Outside::CountCutShort));
     };
     let mut outside = (n > 32_767).then_some(Outside::ManyStrings);
-    let mut at = 2;
+    let (mut texts, mut at) = (vec![], 2);
     for _ in 0..n {
-        let Some(len) = count(bytes, at) else {
-            return (Err(12), outside.or(Some(Outside::CountCutShort)));
-        };
-        outside = outside.or((len > 32_767).then_some(Outside::LongString));
-        let Some(text) = bytes.get(at + 2..at + 2 + len) else {
-            return (Err(12), outside.or(Some(Outside::TextPastEnd)));
-        };
-        if std::str::from_utf8(text).is_err() {
-            return (Err(13), outside);
+        let (read, why) = string(bytes, at);
+        outside = outside.or(why);
+        match read {
+            Err(number) => return (Err(number), outside),
+            Ok((text, end)) => {
+                texts.push(text);
+                at = end;
+            }
         }
-        at += 2 + len;
     }
-    (Ok(at), outside)
+    (Ok((texts, at)), outside)
 }
 
-fn refused(number: u8, outside: Option<Outside>) -> Front {
-    Front {
-        first: First::Refused(number),
-        outside,
+pub fn short_bytes(bytes: &[u8]) -> Noted<Vec<u8>> {
+    let n = count(bytes, 0).ok_or(12)?;
+    let part = bytes.get(2..2 + n).ok_or(12)?;
+    Ok((part.to_vec(), 2 + n))
+}
+
+pub fn long_string(bytes: &[u8]) -> Noted<Vec<u8>> {
+    let count: [u8; 4] = bytes.get(..4).ok_or(12)?.try_into().unwrap_or_default();
+    let n = usize::try_from(i32::from_be_bytes(count)).map_err(|_| 8)?;
+    let part = bytes.get(4..4 + n).ok_or(12)?;
+    Ok((text(part)?, 4 + n))
+}
+
+/// The whole length of an envelope at the front, and 0 where it is not complete.
+pub fn size(bytes: &[u8]) -> Result<usize, u8> {
+    if bytes.len() < 9 {
+        return Ok(0);
+    }
+    let whole = 9 + usize::try_from(declared(bytes)).map_err(|_| 8)?;
+    if bytes.len() < whole {
+        return Ok(0);
+    }
+    if is_version(bytes[0]) {
+        Ok(whole)
+    } else {
+        Err(9)
+    }
+}
+
+fn below_zero(bytes: &[u8]) -> Outside {
+    if declared(bytes) < -9 {
+        Outside::LengthFarBelowZero
+    } else {
+        Outside::LengthBelowZero
     }
 }
 
 /// An envelope at the front of the bytes.
 pub fn front(bytes: &[u8]) -> Front {
-    let incomplete = Front {
-        first: First::Incomplete,
-        outside: None,
-    };
-    if bytes.len() < 9 {
-        return incomplete;
-    }
-    let length = declared(bytes);
-    if length < 0 {
-        return refused(
-            8,
-            Some(if length < -9 {
-                Outside::LengthFarBelowZero
-            } else {
-                Outside::LengthBelowZero
-            }),
-        );
-    }
-    let whole = 9 + length as usize;
-    if bytes.len() < whole {
-        return incomplete;
-    }
-    if !is_version(bytes[0]) {
-        return refused(9, None);
-    }
-    if !is_opcode(bytes[4]) {
-        return refused(10, None);
-    }
-    let mut body = &bytes[9..whole];
-    if bytes[0] > 127 && bytes[1] & 2 != 0 {
-        if body.len() < 16 {
-            return refused(11, Some(Outside::IdCutShort));
+    let (due, outside) = match size(bytes) {
+        Ok(0) => (Ok(None), None),
+        Ok(whole) => {
+            let (read, outside) = envelope(&bytes[..whole]);
+            (read.map(|envelope| Some((whole, envelope))), outside)
         }
-        body = &body[16..];
-    }
-    if bytes[1] & 8 == 0 {
-        return Front {
-            first: First::Whole(whole),
-            outside: None,
-        };
-    }
-    let (list, outside) = string_list(body);
+        Err(number) => (Err(number), (number == 8).then(|| below_zero(bytes))),
+    };
     Front {
-        first: list.map_or_else(First::Refused, |_| First::Whole(whole)),
+        due: due.into(),
         outside,
     }
 }
 
-/// The first thing of a stream that is outside: after how many bytes it is due, whether it stands in a run of segments, and, if it is an envelope, its first
-/// bytes and what the rules say of it.
-#[derive(Clone, Copy, Debug, PartialEq, Eq)]
-pub struct Leaves {
-    pub due: usize,
-    pub why: Outside,
-    pub in_run: bool,
-    pub head: [u8; 9],
-    pub first: First,
-}
-
-impl Leaves {
-    pub fn name(&self) -> String {
-        format!(
-            "{:?}{}",
-            self.why,
-            if self.in_run { " in a run" } else { "" }
-        )
+/// The envelope that these bytes are, whose length and version are good.
+fn envelope(bytes: &[u8]) -> (Result<Envelope, u8>, Option<Outside>) {
+    let (is_response, flags, mut body) = (bytes[0] > 127, bytes[1] & 0x1f, &bytes[9..]);
+    if !is_opcode(bytes[4]) {
+        return (Err(10), None);
     }
-}
-
-struct Walk<'a> {
-    form: Form,
-    stream: &'a [u8],
-    sizes: (usize, usize),
-    at: usize,
-    pending: Vec<u8>,
-}
-
-enum Turn {
-    On,
-    /// Nothing more is read: an end inside a segment, or a refusal that both sides know.
-    Ends,
-    Leaves(Leaves),
-}
-
-/// Where a stream leaves the part on which the two must agree, if it does, for buffers of these sizes.
-pub fn leaves(form: Form, stream: &[u8], sizes: (usize, usize)) -> Option<Leaves> {
-    let mut walk = Walk {
-        form,
-        stream,
-        sizes,
-        at: 0,
-        pending: vec![],
-    };
-    loop {
-        match walk.segment() {
-            Turn::On => {}
-            Turn::Ends => return None,
-            Turn::Leaves(leaves) => return Some(leaves),
-        }
-    }
-}
-
-fn little(bytes: &[u8]) -> u64 {
-    bytes.iter().rev().fold(0, |x, b| x << 8 | *b as u64)
-}
-
-impl Walk<'_> {
-    fn leaves(&self, due: usize, why: Outside, in_run: bool) -> Turn {
-        Turn::Leaves(Leaves {
-            due,
-            why,
-            in_run,
-            head: [0; 9],
-            first: First::Incomplete,
-        })
-    }
-
-    // The checks are the Rust's own: what they are worth is compared elsewhere.
-    fn segment(&mut self) -> Turn {
-        let (number_len, flag) = if self.form == Form::Short {
-            (3, 17)
-        } else {
-            (5, 34)
+    let mut id = None;
+    if is_response && flags & 2 != 0 {
+        let Some(part) = body.get(..16) else {
+            return (Err(11), Some(Outside::IdCutShort));
         };
-        let (rest, header) = (&self.stream[self.at..], number_len + 3);
-        if rest.len() < header
-            || crate::theirs::crc24(&rest[..number_len]) as u64 != little(&rest[number_len..header])
-        {
-            return Turn::Ends;
-        }
-        let (number, due) = (little(&rest[..number_len]), self.at + header);
-        if self.form == Form::Long && number >> 17 & 0x1ffff != 0 {
-            return self.leaves(due, Outside::Compressed, false);
-        }
-        let payload = header..header + (number & 0x1ffff) as usize;
-        if payload.end + 4 > self.sizes.0 {
-            return self.leaves(due, Outside::SegmentTooLong, false);
-        }
-        if rest.len() < payload.end + 4
-            || crate::theirs::crc32(&rest[payload.clone()]) as u64
-                != little(&rest[payload.end..payload.end + 4])
-        {
-            return Turn::Ends;
-        }
-        let payload = rest[payload.clone()].to_vec();
-        self.at += header + payload.len() + 4;
-        self.payload(payload, number >> flag & 1 == 1)
+        id = part.try_into().ok();
+        body = &body[16..];
     }
-
-    fn payload(&mut self, payload: Vec<u8>, self_contained: bool) -> Turn {
-        if self_contained {
-            return if self.pending.is_empty() {
-                self.envelopes(&payload, false).1
-            } else {
-                Turn::Ends
-            };
-        }
-        if self.pending.len() + payload.len() > self.sizes.1 {
-            return self.leaves(self.at, Outside::ReassemblyTooShort, true);
-        }
-        let mut joined = std::mem::take(&mut self.pending);
-        joined.extend(payload);
-        let (read, turn) = self.envelopes(&joined, true);
-        self.pending = joined.split_off(read);
-        turn
-    }
-
-    fn envelopes(&self, bytes: &[u8], in_run: bool) -> (usize, Turn) {
-        let mut at = 0;
-        loop {
-            let front = front(&bytes[at..]);
-            if let Some(why) = front.outside {
-                let head = bytes[at..at + 9].try_into().unwrap_or_default();
-                return (
-                    at,
-                    Turn::Leaves(Leaves {
-                        due: self.at,
-                        why,
-                        in_run,
-                        head,
-                        first: front.first,
-                    }),
-                );
-            }
-            match front.first {
-                First::Incomplete => return (at, Turn::On),
-                First::Refused(_) => return (at, Turn::Ends),
-                First::Whole(n) => at += n,
-            }
-        }
-    }
+    let (list, outside) = if flags & 8 != 0 {
+        string_list(body)
+    } else {
+        (Ok((vec![], 0)), None)
+    };
+    let whole = |(warnings, end): (Vec<Vec<u8>>, usize)| Envelope {
+        version: bytes[0] & 0x7f,
+        is_response,
+        flags,
+        stream: i16::from_be_bytes([bytes[2], bytes[3]]),
+        opcode: bytes[4],
+        id,
+        warnings,
+        body: body[end..].to_vec(),
+    };
+    (list.map(whole), outside)
 }

@@ -39,8 +39,55 @@ impl<T> Outcome<T> {
     }
 }
 
+impl<T> From<Result<T, u8>> for Outcome<T> {
+    fn from(result: Result<T, u8>) -> Self {
+        result.map_or_else(Outcome::Refused, Outcome::Gave)
+    }
+}
+
 /// What stands at the front of some bytes: an envelope and its whole length, or nothing whole yet.
 pub type Parsed = Outcome<Option<(usize, Envelope)>>;
+
+/// An answer to the reader of a stream, *more* aside.
+#[derive(Clone, Debug, PartialEq, Eq)]
+pub enum Answer {
+    Envelope(Envelope),
+    Leftover(usize),
+    Refused(u8),
+}
+
+/// An answer, and how many bytes of the stream were taken up to it.
+pub type Dated = (usize, Answer);
+
+pub fn envelopes(answers: &[Dated]) -> Vec<Envelope> {
+    let envelope = |(_, answer): &Dated| match answer {
+        Answer::Envelope(envelope) => Some(envelope.clone()),
+        _ => None,
+    };
+    answers.iter().filter_map(envelope).collect()
+}
+
+/// The refusal that ends these answers.
+pub fn refusal(answers: &[Dated]) -> Option<u8> {
+    match answers.last() {
+        Some((_, Answer::Refused(number))) => Some(*number),
+        _ => None,
+    }
+}
+
+/// What the Rust says where these answers are due: it loses the envelopes of a call that errs.
+pub fn as_rust(answers: &[Dated]) -> Outcome<Vec<Envelope>> {
+    refusal(answers).map_or_else(|| Outcome::Gave(envelopes(answers)), Outcome::Refused)
+}
+
+/// A report for a person, whose lines are cut where they are very long.
+pub fn cut(report: &str) -> String {
+    let cut = |line: &str| match line.char_indices().nth(2_000) {
+        Some((end, _)) => format!("{} .. {} characters in all", &line[..end], line.len()),
+        None => line.to_string(),
+    };
+    report.lines().map(cut).collect::<Vec<_>>().join("\n")
+}
 
 pub fn hex(bytes: &[u8]) -> String {
     if bytes.is_empty() {

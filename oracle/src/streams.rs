@@ -1,5 +1,5 @@
 //! Streams made from a seed, in parts that can be taken out one by one.
-use crate::envelopes::{envelope, Faults};
+use crate::envelopes::{envelope, full_envelope, Faults};
 use crate::judged::Form;
 use crate::random::Random;
 use crate::theirs;
@@ -203,6 +203,29 @@ fn parts(random: &mut Random, form: Form, scale: Scale, faults: Faults) -> Vec<P
     out
 }
 
+/// An envelope with a full list, short ones before it and behind it, in one segment or, half of the time, in a run.
+fn full_parts(random: &mut Random, form: Form, k: usize) -> Vec<Part> {
+    let (good, short) = (
+        Faults(0),
+        Scale {
+            segments: 1,
+            body: 9,
+        },
+    );
+    let mut joined = envelope(random, short.body, good);
+    joined.extend(full_envelope(random, k));
+    joined.extend(envelope(random, short.body, good));
+    let mut out = parts(random, form, short, good);
+    if k / 4 % 2 == 0 {
+        out.push(part(random, form, good, true, joined));
+    } else {
+        let behind = joined.split_off(random.below(joined.len()));
+        out.extend([joined, behind].map(|payload| part(random, form, good, false, payload)));
+    }
+    out.extend(parts(random, form, short, Faults(4)));
+    out
+}
+
 /// Buffers that suffice, or, seldom, ones that are near the length of something in the stream.
 fn sizes(random: &mut Random, parts: &[Part]) -> (usize, usize) {
     if parts.is_empty() || !random.once_in(20) {
@@ -236,6 +259,17 @@ pub fn stream(random: &mut Random, scale: Scale, faults: Faults) -> Stream {
     let form = *random.pick(&[Form::Short, Form::Long]);
     let parts = parts(random, form, scale, faults);
     let sizes = sizes(random, &parts);
+    cut(random, form, parts, sizes)
+}
+
+/// A stream with a list of warnings that is longer than the Rust reads.
+pub fn full_stream(random: &mut Random, k: usize) -> Stream {
+    let form = *random.pick(&[Form::Short, Form::Long]);
+    let parts = full_parts(random, form, k);
+    cut(random, form, parts, SIZES)
+}
+
+fn cut(random: &mut Random, form: Form, parts: Vec<Part>, sizes: (usize, usize)) -> Stream {
     let mut stream = Stream {
         form,
         parts,

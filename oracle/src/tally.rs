@@ -22,7 +22,8 @@ impl Tally {
         *self.refusals.entry((what, number)).or_default() += 1;
     }
 
-    /// The two disagree outside the part on which they must agree, as a class of differences says. Of the inputs that are looked at, the first ones and then some, the shortest is kept.
+    /// The two disagree outside the part on which they must agree, as a class of differences says. Of the inputs that are looked at, the first ones and then
+    /// some, the shortest is kept.
     pub fn outside(
         &mut self,
         what: &'static str,
@@ -45,6 +46,14 @@ impl Tally {
             .keys()
             .map(|(what, class)| format!("{what}: {class}"))
             .collect()
+    }
+
+    /// What was compared, and the refusals that came from both.
+    pub fn kinds(&self) -> Vec<String> {
+        let refusals = self.refusals.keys();
+        let refusals = refusals.map(|(what, number)| format!("{what}: {number}"));
+        let compared = self.compared.keys().map(|what| what.to_string());
+        compared.chain(refusals).collect()
     }
 
     pub fn print(&self) {

@@ -12,12 +12,18 @@ AROUND = 10
 
 class Original:
     def __init__(self, oracle):
-        self.process = subprocess.Popen([oracle, "lines"], stdin=subprocess.PIPE, stdout=subprocess.PIPE, text=True)
+        try:
+            self.process = subprocess.Popen([oracle, "lines"], stdin=subprocess.PIPE, stdout=subprocess.PIPE, text=True)
+        except OSError as error:
+            raise SystemExit(f"{oracle}, which has to be the Rust original with its harness, can't be started: {error.strerror}") from None
 
     # A command is answered by a line, and that by a line of a single dot.
     def ask(self, command):
-        self.process.stdin.write(command + "\n")
-        self.process.stdin.flush()
+        try:
+            self.process.stdin.write(command + "\n")
+            self.process.stdin.flush()
+        except BrokenPipeError:
+            raise SystemExit(f"{self.process.args[0]} ended and did not take: {command[:200]}") from None
         answer, end = self.process.stdout.readline(), self.process.stdout.readline()
         if answer.startswith(("PANIC", "unknown")) or end != ".\n":
             raise SystemExit(f"{command[:200]}: {answer}{end}")

@@ -1,4 +1,5 @@
-//! The Rust original's side of tools/measure/measure-reader, which builds it as an example of the crate that it measures. It does what host/src/bin/measure_reader.rs does.
+//! The Rust original's side of tools/measure/measure-reader, which builds it as an example of the crate that it measures. It does what
+//! host/src/bin/measure_reader.rs does.
 
 use cassandra_protocol::compression::Compression;
 use cassandra_protocol::frame::frame_decoder::{FrameDecoder, UncompressedFrameDecoder};

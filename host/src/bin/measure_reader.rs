@@ -1,6 +1,6 @@
-//! Our side of tools/measure/measure-reader. Reads a stream of short segments from standard input in pieces of 65,536 bytes, the last one shorter, and writes how many
-//! envelopes the reader handed on and how many bytes their bodies have. How long the reader worked goes to standard error: the processor time, in millionths of
-//! a second.
+//! Our side of tools/measure/measure-reader. Reads a stream of short segments from standard input in pieces of 65,536 bytes, the last one shorter, and
+//! writes how many envelopes the reader handed on and how many bytes their bodies have. How long the reader worked goes to standard error: the processor
+//! time, in millionths of a second.
 
 use std::io::Read;
 use tanglegoose_host::judged::{Answer, Form, Reader};

@@ -42,7 +42,8 @@ pub fn header(envelope: &Reading) -> String {
     )
 }
 
-/// The texts of a walk by the call that steps through it, the first 20 and that there are more, and how it ended. No walk has more than 65,535 texts, so the turns suffice.
+/// The texts of a walk by the call that steps through it, the first 20 and that there are more, and how it ended. No walk has more than 65,535 texts, so the
+/// turns suffice.
 pub fn walk(bytes: &[u8], from: Walk, show: impl Fn(Place) -> String) -> String {
     let (mut said, mut at) = (String::new(), from);
     for met in 0..65_536 {
