@@ -6,9 +6,9 @@ use Rattle.std.specs.Prelude.{ℕ, ◌+◌, ◌≤◌, ◌≡◌, List, [], ◌�
 
 -- it hands something on, asks for more, or refuses
 pub data Reply (X E : Type 0) : Type 0 where
-  handsOn : X → Reply X E
-  asksMore : Reply X E
-  refusesWith : E → Reply X E
+  hands_on : X → Reply X E
+  asks_more : Reply X E
+  refuses_with : E → Reply X E
 
 -- and it took so many bytes of the piece, and leaves this state
 pub record Step (S X E : Type 0) : Type 0 where
@@ -32,7 +32,7 @@ dated after what = record { after = after; what = what }
 -- all that is handed on, in order; and then the end: a refusal and how many bytes were taken up to it, or what is held when all were taken
 pub data Story (X E H : Type 0) : Type 0 where
   says : Dated X → Story X E H → Story X E H
-  refusedAfter : E → ℕ → Story X E H
+  refused_after : E → ℕ → Story X E H
   holding : H → Story X E H
 
 -- all of this, and then that
@@ -44,16 +44,16 @@ saying (x ∷ xs) m = says x (saying xs m)
 
 -- more is asked for, or it is refused
 pub data Close (E : Type 0) : Type 0 where
-  usedUp : Close E
-  refusedWith : E → Close E
+  used_up : Close E
+  refused_with : E → Close E
 
 -- A caller calls with what is left of a piece until more is asked for or it is refused; each call is made with the state that the one before left, untouched. From a state, with so many bytes
 -- taken before: what is handed on, how that ends, how many bytes are taken then, and the state that is left.
 pub data Uses {S X E : Type 0} (call : S → List ℕ → Step S X E) : S → ℕ → List ℕ → List (Dated X) → Close E → ℕ → S → Type 0 where
-  by-more : {s t : S} {taken n : ℕ} {piece : List ℕ} → call s piece ≡ step asksMore n t → Uses call s taken piece [] usedUp (taken + n) t
-  by-refusal : {s t : S} {taken n : ℕ} {piece : List ℕ} {e : E} → call s piece ≡ step (refusesWith e) n t → Uses call s taken piece [] (refusedWith e) (taken + n) t
+  by_more : {s t : S} {taken n : ℕ} {piece : List ℕ} → call s piece ≡ step asks_more n t → Uses call s taken piece [] used_up (taken + n) t
+  by_refusal : {s t : S} {taken n : ℕ} {piece : List ℕ} {e : E} → call s piece ≡ step (refuses_with e) n t → Uses call s taken piece [] (refused_with e) (taken + n) t
   after_one : {s t u : S} {taken n end : ℕ} {piece : List ℕ} {x : X} {xs : List (Dated X)} {c : Close E}
-      → call s piece ≡ step (handsOn x) n t → Uses call t (taken + n) (drop n piece) xs c end u
+      → call s piece ≡ step (hands_on x) n t → Uses call t (taken + n) (drop n piece) xs c end u
       → Uses call s taken piece (dated (taken + n) x ∷ xs) c end u
 
 -- it is used up, with at most so much handed on
@@ -76,8 +76,8 @@ pub record Same {S X E : Type 0} (xs ys : List (Dated X)) (c d : Close E) (m n :
 
 -- a refusal ends it; where all pieces are used up it is told what the last state holds
 pub data Hears {S X E H : Type 0} (call : S → List ℕ → Step S X E) (holds : S → H) : S → ℕ → List (List ℕ) → Story X E H → Type 0 where
-  all-given : {s : S} {taken : ℕ} → Hears call holds s taken [] (holding (holds s))
-  one-used : {s t : S} {taken n : ℕ} {piece : List ℕ} {pieces : List (List ℕ)} {xs : List (Dated X)} {m : Story X E H}
-      → Uses call s taken piece xs usedUp n t → Hears call holds t n pieces m → Hears call holds s taken (piece ∷ pieces) (saying xs m)
-  one-refused : {s t : S} {taken n : ℕ} {piece : List ℕ} {pieces : List (List ℕ)} {xs : List (Dated X)} {e : E}
-      → Uses call s taken piece xs (refusedWith e) n t → Hears call holds s taken (piece ∷ pieces) (saying xs (refusedAfter e n))
+  all_given : {s : S} {taken : ℕ} → Hears call holds s taken [] (holding (holds s))
+  one_used : {s t : S} {taken n : ℕ} {piece : List ℕ} {pieces : List (List ℕ)} {xs : List (Dated X)} {m : Story X E H}
+      → Uses call s taken piece xs used_up n t → Hears call holds t n pieces m → Hears call holds s taken (piece ∷ pieces) (saying xs m)
+  one_refused : {s t : S} {taken n : ℕ} {piece : List ℕ} {pieces : List (List ℕ)} {xs : List (Dated X)} {e : E}
+      → Uses call s taken piece xs (refused_with e) n t → Hears call holds s taken (piece ∷ pieces) (saying xs (refused_after e n))

@@ -3,7 +3,7 @@
 ghost use Rattle.std.specs.Prelude.{◌≡◌};
 ghost use Rattle.crc.specs.Check24.{crc24 as checkOf24};
 ghost use Rattle.crc.specs.Check32.{crc32 as checkOf32};
-ghost use Rattle.frame.specs.Envelope.{size_of, sizeNumber};
+ghost use Rattle.frame.specs.Envelope.{size_of, size_number};
 
 use crc::{crc24, crc32};
 use frame::read::check_envelope_size;
@@ -24,7 +24,7 @@ pub extern "C" fn tanglegoose_crc32(bytes: &[u8]) -> u32
 
 #[unsafe(no_mangle)]
 pub extern "C" fn tanglegoose_check_envelope_size(bytes: &[u8]) -> i64
-    ensures { result ≡ sizeNumber (size_of bytes.now) }
+    ensures { result ≡ size_number (size_of bytes.now) }
 {
     check_envelope_size(bytes)
 }

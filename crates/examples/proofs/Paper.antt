@@ -7,22 +7,22 @@ use lib.IntN.{pos, negsuc}
 use Rattle.basis.specs.Front.{incomplete, refuses, whole}
 use Rattle.crc.specs.Fold.{run}
 use Rattle.crc.specs.Check24.{crc24}
-use Rattle.types.specs.Number.{be, beFrom}
-use Rattle.types.specs.Read.{place, strings, bytesIn, number_at, run_at, textAt, stringAt, stringsAt, textsIn, listed, stringListAt}
+use Rattle.types.specs.Number.{be, be_from}
+use Rattle.types.specs.Read.{place, strings, bytes_in, number_at, run_at, text_at, string_at, strings_at, texts_in, listed, string_list_at}
 use Rattle.utf8.specs.Utf8.{begin, step, after, utf8}
-use Rattle.segment.specs.LittleEndian.{leDigits}
-use Rattle.segment.specs.Header.{short, long, headerNumber, numberBytes, headerBytes}
-use Rattle.frame.specs.Header.{headerOf, knownVersion, knownOpcode, hasId, hasWarnings}
-use Rattle.frame.specs.Envelope.{declared, sized, size_of, afterId, warningsAt, within, inside, envelope, idIn, bodyIn, warningsIn}
-use Rattle.examples.specs.Example.{seen, header_of, crc24-of, front_of, begins, check, reads, shown}
+use Rattle.segment.specs.LittleEndian.{le_digits}
+use Rattle.segment.specs.Header.{short, long, header_number, number_bytes, header_bytes}
+use Rattle.frame.specs.Header.{header_of, known_version, known_opcode, has_id, has_warnings}
+use Rattle.frame.specs.Envelope.{declared, sized, size_of, after_id, warnings_at, within, inside, envelope, id_in, body_in, warnings_in}
+use Rattle.examples.specs.Example.{seen, header_bytes_of, crc24_of, front_of, begins, check, reads, shown}
 
 -- whatever the fifteen bytes of P11 are
 pub examples : (b₁ b₂ b₃ b₄ b₅ b₆ b₇ b₈ b₉ b₁₀ b₁₁ b₁₂ b₁₃ b₁₄ b₁₅ : ℕ) →
     map shown
-    (header_of 3 short 0 true
-    ∷ header_of 3 short 131071 false
-    ∷ header_of 5 long 5 true
-    ∷ crc24-of []
+    (header_bytes_of 3 short 0 true
+    ∷ header_bytes_of 3 short 131071 false
+    ∷ header_bytes_of 5 long 5 true
+    ∷ crc24_of []
     ∷ front_of (0x05 ∷ 0x00 ∷ 0x00 ∷ 0x01 ∷ 0x05 ∷ 0x00 ∷ 0x00 ∷ 0x00 ∷ 0x00 ∷ [])
     ∷ front_of (0x85 ∷ 0x00 ∷ 0xff ∷ 0xff ∷ 0x0c ∷ 0x00 ∷ 0x00 ∷ 0x00 ∷ 0x00 ∷ [])
     ∷ front_of (0x05 ∷ 0x00 ∷ 0x00 ∷ 0x01 ∷ 0x05 ∷ 0x00 ∷ 0x00 ∷ 0x00 ∷ [])
@@ -86,5 +86,5 @@ pub examples : (b₁ b₂ b₃ b₄ b₅ b₆ b₇ b₈ b₉ b₁₀ b₁₁ b�
     }))
     ∷ reads (refuses 13)
     ∷ []
-unfolding shown seen envelope size_of sized declared headerOf knownVersion knownOpcode hasId hasWarnings afterId warningsAt within inside idIn bodyIn warningsIn be beFrom bytesIn number_at run_at textAt stringAt stringsAt textsIn listed stringListAt utf8 after step begin leDigits headerNumber numberBytes headerBytes crc24 run
+unfolding shown seen envelope size_of sized declared header_of known_version known_opcode has_id has_warnings after_id warnings_at within inside id_in body_in warnings_in be be_from bytes_in number_at run_at text_at string_at strings_at texts_in listed string_list_at utf8 after step begin le_digits header_number number_bytes header_bytes crc24 run
 examples b₁ b₂ b₃ b₄ b₅ b₆ b₇ b₈ b₉ b₁₀ b₁₁ b₁₂ b₁₃ b₁₄ b₁₅ = refl

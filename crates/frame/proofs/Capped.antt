@@ -6,49 +6,49 @@ use native.Mathlib.Decide.{dec_le}
 use native.Mathlib.Nat.{lt_of_not-le}
 use native.Mathlib.Omega.{arith}
 use borrow.Author.Tests.{le-leb, lt-leb}
-use Rattle.frame.specs.Write.{maxBody}
+use Rattle.frame.specs.Write.{max_body}
 use Rattle.frame.specs.Private.Inside.{capped}
 
-pub capped_small : {n : ℕ} → n ≤ maxBody → capped n ≡ n
+pub capped_small : {n : ℕ} → n ≤ max_body → capped n ≡ n
 unfolding capped
-capped_small {n} h = ap (λ (t : Bool). cond t n (maxBody + 1)) (le-leb n maxBody h)
+capped_small {n} h = ap (λ (t : Bool). cond t n (max_body + 1)) (le-leb n max_body h)
 
-pub capped-large : {n : ℕ} → maxBody < n → capped n ≡ maxBody + 1
+pub capped_large : {n : ℕ} → max_body < n → capped n ≡ max_body + 1
 unfolding capped
-capped-large {n} h = ap (λ (t : Bool). cond t n (maxBody + 1)) (lt-leb n maxBody h)
+capped_large {n} h = ap (λ (t : Bool). cond t n (max_body + 1)) (lt-leb n max_body h)
 
-pub capped-most : (n : ℕ) → capped n ≤ maxBody + 1
-capped-most n =
-    elim (dec_le n maxBody) [
+pub capped_most : (n : ℕ) → capped n ≤ max_body + 1
+capped_most n =
+    elim (dec_le n max_body) [
       | yes h ↦ omega (arith, capped_small h)
-      | no h ↦ omega (arith, capped-large (lt_of_not-le h))
+      | no h ↦ omega (arith, capped_large (lt_of_not-le h))
     ]
 
 -- so a number that is a capped one is no larger
-pub capped-bound : {r : ℕ} (n : ℕ) → r ≡ capped n → r ≤ maxBody + 1
-capped-bound n e = omega (arith, e, capped-most n)
+pub capped_bound : {r : ℕ} (n : ℕ) → r ≡ capped n → r ≤ max_body + 1
+capped_bound n e = omega (arith, e, capped_most n)
 
-pub capped-plus : (a b : ℕ) → capped (capped a + b) ≡ capped (a + b)
-capped-plus a b =
-    elim (dec_le a maxBody) [
+pub capped_plus : (a b : ℕ) → capped (capped a + b) ≡ capped (a + b)
+capped_plus a b =
+    elim (dec_le a max_body) [
       | yes h ↦ ap (λ (k : ℕ). capped (k + b)) (capped_small h)
       | no h ↦
-          let l : maxBody < a = lt_of_not-le h in
-          let e : capped a ≡ maxBody + 1 = capped-large l in
-          capped-large (omega arith) ∙ sym (capped-large (omega arith))
+          let l : max_body < a = lt_of_not-le h in
+          let e : capped a ≡ max_body + 1 = capped_large l in
+          capped_large (omega arith) ∙ sym (capped_large (omega arith))
     ]
 
 -- what the test of a capped number says of the number
-pub capped-within : {r : ℕ} (n : ℕ) → r ≡ capped n → r ≤ maxBody → (n ≤ maxBody) × (r ≡ n)
-capped-within n e h =
-    elim (dec_le n maxBody) [
+pub capped_within : {r : ℕ} (n : ℕ) → r ≡ capped n → r ≤ max_body → (n ≤ max_body) × (r ≡ n)
+capped_within n e h =
+    elim (dec_le n max_body) [
       | yes k ↦ (k, e ∙ capped_small k)
-      | no k ↦ let f : ⊥ = omega (arith, capped-large (lt_of_not-le k)) in absurd f
+      | no k ↦ let f : ⊥ = omega (arith, capped_large (lt_of_not-le k)) in absurd f
     ]
 
-pub capped-past : {r : ℕ} (n : ℕ) → r ≡ capped n → maxBody < r → maxBody < n
-capped-past n e h =
-    elim (dec_le n maxBody) [
+pub capped_past : {r : ℕ} (n : ℕ) → r ≡ capped n → max_body < r → max_body < n
+capped_past n e h =
+    elim (dec_le n max_body) [
       | yes k ↦ let f : ⊥ = omega (arith, capped_small k) in absurd f
       | no k ↦ lt_of_not-le k
     ]

@@ -1,19 +1,19 @@
 // The header's fields: which are known, what they ask for, and where they stand.
 ghost use Rattle.std.specs.Prelude.{◌≡◌, ◌≤◌, leb, length};
-ghost use Rattle.frame.specs.Header.{headerOf, knownVersion, knownOpcode, flag, hasId, hasWarnings};
-ghost use Rattle.frame.specs.Paper.{isResponse, paperHeader};
+ghost use Rattle.frame.specs.Header.{header_of, known_version, known_opcode, flag, has_id, has_warnings};
+ghost use Rattle.frame.specs.Paper.{is_response, paper_header};
 
 use crate::{Direction, Header, MAX_FLAGS, TRACING, WARNING};
 use types::{inner, number};
 
 pub(crate) fn known_version(v: u8) -> bool
-    ensures { result ≡ knownVersion v }
+    ensures { result ≡ known_version v }
 {
     3 <= v && v <= 5
 }
 
 pub(crate) fn known_opcode(o: u8) -> bool
-    ensures { result ≡ knownOpcode o }
+    ensures { result ≡ known_opcode o }
 {
     o <= 0x10 && o != 0x04
 }
@@ -27,7 +27,7 @@ pub(crate) fn has_flag(flags: u8, weight: u8) -> bool
 
 // A tracing id stands in a response that has the flag.
 pub(crate) fn has_id(header: Header) -> bool
-    ensures { result ≡ hasId (paperHeader header) }
+    ensures { result ≡ has_id (paper_header header) }
 {
     let flags = header.flags;
     let direction = header.direction;
@@ -38,14 +38,14 @@ pub(crate) fn has_id(header: Header) -> bool
 }
 
 pub(crate) fn has_warnings(header: Header) -> bool
-    ensures { result ≡ hasWarnings (paperHeader header) }
+    ensures { result ≡ has_warnings (paper_header header) }
 {
     let flags = header.flags;
     has_flag(flags, WARNING)
 }
 
 fn direction_of(first: u8) -> Direction
-    ensures { isResponse result ≡ leb 128 first }
+    ensures { is_response result ≡ leb 128 first }
 {
     if 128 <= first {
         Direction::Response
@@ -56,7 +56,7 @@ fn direction_of(first: u8) -> Direction
 
 pub(crate) fn read_header(bytes: &[u8]) -> Header
     requires { 9 ≤ length bytes.now }
-    ensures { paperHeader result ≡ headerOf bytes.now }
+    ensures { paper_header result ≡ header_of bytes.now }
 {
     let first = bytes[0];
     let flags = bytes[1];

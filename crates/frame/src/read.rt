@@ -1,11 +1,11 @@
 // Reading the envelope at the front of some bytes, and measuring it.
 ghost use Rattle.std.specs.Prelude.{◌≡◌, cond, ◌≤◌, pos, neg_ℤ, length};
 ghost use Rattle.refusal.specs.Refusal.{number_of};
-ghost use Rattle.types.specs.Paper.{stringsOf};
-ghost use Rattle.frame.specs.Header.{idLength};
-ghost use Rattle.frame.specs.Envelope.{size_of, sizeNumber, afterId, warningsAt, envelopeWith, readAs, inside, envelope, idIn, bodyIn};
-ghost use Rattle.frame.specs.Paper.{paperHeader, paperEnvelope, paperSize, paperReading};
-ghost use Rattle.frame.specs.Private.Inside.{paperWarnings};
+ghost use Rattle.types.specs.Paper.{strings_of};
+ghost use Rattle.frame.specs.Header.{id_length};
+ghost use Rattle.frame.specs.Envelope.{size_of, size_number, after_id, warnings_at, envelope_with, read_as, inside, envelope, id_in, body_in};
+ghost use Rattle.frame.specs.Paper.{paper_header, paper_envelope, paper_size, paper_reading};
+ghost use Rattle.frame.specs.Private.Inside.{paper_warnings};
 
 use crate::{Envelope, HEADER_LEN, Header, Reading, Size, TRACING_ID_LEN, head};
 use refusal::Refusal;
@@ -13,7 +13,7 @@ use types::{Place, ReadStrings, Walk, inner, read};
 
 // How long the envelope is: the tests go as far as the version.
 pub fn envelope_size(bytes: &[u8]) -> Size
-    ensures { paperSize result ≡ size_of bytes.now }
+    ensures { paper_size result ≡ size_of bytes.now }
 {
     if bytes.len() < HEADER_LEN {
         return Size::Incomplete;
@@ -42,7 +42,7 @@ fn minus(e: Refusal) -> i64
 
 // The same as one number: the whole length, 0 where the envelope is incomplete, minus the number of a refusal.
 pub fn check_envelope_size(bytes: &[u8]) -> i64
-    ensures { result ≡ sizeNumber (size_of bytes.now) }
+    ensures { result ≡ size_number (size_of bytes.now) }
 {
     match envelope_size(bytes) {
         Size::Incomplete => 0,
@@ -52,14 +52,14 @@ pub fn check_envelope_size(bytes: &[u8]) -> i64
 }
 
 fn id_len(traced: bool) -> usize
-    ensures { result ≡ cond traced idLength 0 }
+    ensures { result ≡ cond traced id_length 0 }
 {
     if traced { TRACING_ID_LEN } else { 0 }
 }
 
 // Where the body goes on behind the tracing id.
 fn after_id(header: Header) -> usize
-    ensures { result ≡ afterId (paperHeader header) }
+    ensures { result ≡ after_id (paper_header header) }
 {
     let traced = head::has_id(header);
     let len = id_len(traced);
@@ -74,7 +74,7 @@ enum Warnings {
 }
 
 fn read_warnings(bytes: &[u8], header: Header, at: usize) -> Warnings
-    ensures { paperWarnings at result ≡ warningsAt bytes.now (paperHeader header) at }
+    ensures { paper_warnings at result ≡ warnings_at bytes.now (paper_header header) at }
 {
     if head::has_warnings(header) {
         match read::read_string_list(bytes, at) {
@@ -89,7 +89,7 @@ fn read_warnings(bytes: &[u8], header: Header, at: usize) -> Warnings
 // An envelope of this size whose body goes on at a position, up to the end.
 fn envelope_with(size: usize, header: Header, warnings: Walk, at: usize) -> Envelope
     requires { at ≤ size }
-    ensures { paperEnvelope result ≡ envelopeWith size (paperHeader header) (stringsOf warnings) at }
+    ensures { paper_envelope result ≡ envelope_with size (paper_header header) (strings_of warnings) at }
 {
     let traced = head::has_id(header);
     let body = Place {
@@ -108,7 +108,7 @@ fn envelope_with(size: usize, header: Header, warnings: Walk, at: usize) -> Enve
 // From where the tracing id ends.
 fn read_rest(bytes: &[u8], header: Header, at: usize) -> Reading
     requires { at ≤ length bytes.now }
-    ensures { paperReading result ≡ readAs (length bytes.now) (paperHeader header) (warningsAt bytes.now (paperHeader header) at) }
+    ensures { paper_reading result ≡ read_as (length bytes.now) (paper_header header) (warnings_at bytes.now (paper_header header) at) }
 {
     let size = bytes.len();
     let warnings = read_warnings(bytes, header, at);
@@ -127,7 +127,7 @@ fn read_rest(bytes: &[u8], header: Header, at: usize) -> Reading
 // The bytes of one envelope, no more and no fewer.
 fn read_inside(bytes: &[u8]) -> Reading
     requires { 9 ≤ length bytes.now }
-    ensures { paperReading result ≡ inside bytes.now }
+    ensures { paper_reading result ≡ inside bytes.now }
 {
     let header = head::read_header(bytes);
     let opcode = header.opcode;
@@ -144,7 +144,7 @@ fn read_inside(bytes: &[u8]) -> Reading
 
 // The envelope at the front of the bytes. What stands behind its declared end is not looked at.
 pub fn read_envelope(bytes: &[u8]) -> Reading
-    ensures { paperReading result ≡ envelope bytes.now }
+    ensures { paper_reading result ≡ envelope bytes.now }
 {
     let size = envelope_size(bytes);
     if let Size::Refused(e) = size {
@@ -158,14 +158,14 @@ pub fn read_envelope(bytes: &[u8]) -> Reading
 
 // The body of an envelope that begins with the first of the bytes, without tracing id and warnings.
 pub fn body<'a>(bytes: &'a [u8], envelope: Envelope) -> &'a [u8]
-    ensures { result.now ≡ bodyIn bytes.now (paperEnvelope envelope) }
+    ensures { result.now ≡ body_in bytes.now (paper_envelope envelope) }
 {
     types::part(bytes, envelope.body)
 }
 
 // Its tracing id, and an empty part where it has none.
 pub fn tracing_id<'a>(bytes: &'a [u8], envelope: Envelope) -> &'a [u8]
-    ensures { result.now ≡ idIn bytes.now (paperEnvelope envelope) }
+    ensures { result.now ≡ id_in bytes.now (paper_envelope envelope) }
 {
     let traced = envelope.traced;
     let len = id_len(traced);

@@ -1,10 +1,10 @@
 // Writing an envelope at the front of an output: 15, then 13, then 14. A refusal leaves the output as it was.
 ghost use Rattle.std.specs.Prelude.{◌≡◌, ◌+◌, ◌≤◌, length};
-ghost use Rattle.types.specs.Paper.{paperWritable, paperWritten};
+ghost use Rattle.types.specs.Paper.{paper_writable, paper_written};
 ghost use Rattle.types.specs.Write.{Wrote, fine, put};
-ghost use Rattle.frame.specs.Write.{content, idPart, warningsPart, headerBytes, envelopeBytes, maxBody, idFits, warningFits, flagsFit, headFits, firstByte, warningsCheck, envelopeCheck};
-ghost use Rattle.frame.specs.Paper.{paperHeader};
-ghost use Rattle.frame.specs.Private.Inside.{capped, idSize, warningsSize, tailSize, Planned};
+ghost use Rattle.frame.specs.Write.{content, id_part, warnings_part, header_bytes, envelope_bytes, max_body, id_fits, warning_fits, flags_fit, head_fits, first_byte, warnings_check, envelope_check};
+ghost use Rattle.frame.specs.Paper.{paper_header};
+ghost use Rattle.frame.specs.Private.Inside.{capped, id_size, warnings_size, tail_size, Planned};
 
 use crate::{Direction, HEADER_LEN, Header, MAX_BODY, MAX_FLAGS, TRACING_ID_LEN, WARNING, head};
 use refusal::Refusal;
@@ -12,7 +12,7 @@ use types::{Writable, Written, inner, number};
 
 // An id is there where it is to be written.
 fn id_fits(header: Header, id_len: usize) -> bool
-    ensures { result ≡ idFits (paperHeader header) id_len }
+    ensures { result ≡ id_fits (paper_header header) id_len }
 {
     if head::has_id(header) {
         id_len == TRACING_ID_LEN
@@ -23,7 +23,7 @@ fn id_fits(header: Header, id_len: usize) -> bool
 
 // A request has no warnings.
 fn warning_fits(header: Header) -> bool
-    ensures { result ≡ warningFits (paperHeader header) }
+    ensures { result ≡ warning_fits (paper_header header) }
 {
     let direction = header.direction;
     if head::has_flag(header.flags, WARNING) {
@@ -37,7 +37,7 @@ fn warning_fits(header: Header) -> bool
 }
 
 fn flags_fit(header: Header, id_len: usize) -> bool
-    ensures { result ≡ flagsFit (paperHeader header) id_len }
+    ensures { result ≡ flags_fit (paper_header header) id_len }
 {
     if header.flags <= MAX_FLAGS {
         if id_fits(header, id_len) {
@@ -49,7 +49,7 @@ fn flags_fit(header: Header, id_len: usize) -> bool
 }
 
 fn head_fits(header: Header, id_len: usize) -> bool
-    ensures { result ≡ headFits (paperHeader header) id_len }
+    ensures { result ≡ head_fits (paper_header header) id_len }
 {
     if head::known_version(header.version) {
         if head::known_opcode(header.opcode) {
@@ -62,7 +62,7 @@ fn head_fits(header: Header, id_len: usize) -> bool
 
 // A sum that stays small: what goes past the largest declared length is one more than it.
 fn plus(a: usize, b: usize) -> usize
-    requires { a ≤ maxBody + 1 }
+    requires { a ≤ max_body + 1 }
     ensures { result ≡ capped (a + b) }
 {
     if b <= MAX_BODY {
@@ -76,13 +76,13 @@ fn plus(a: usize, b: usize) -> usize
 }
 
 fn id_size(header: Header, id: usize) -> usize
-    ensures { result ≡ idSize (paperHeader header) id }
+    ensures { result ≡ id_size (paper_header header) id }
 {
     if head::has_id(header) { id } else { 0 }
 }
 
 fn warnings_size(header: Header, text: usize, count: usize) -> usize
-    ensures { result ≡ capped (warningsSize (paperHeader header) text count) }
+    ensures { result ≡ capped (warnings_size (paper_header header) text count) }
 {
     if head::has_warnings(header) {
         let counts = plus(2, count);
@@ -94,7 +94,7 @@ fn warnings_size(header: Header, text: usize, count: usize) -> usize
 
 // The declared length, by the lengths of what is given.
 fn tail_size(header: Header, id: usize, text: usize, count: usize, body: usize) -> usize
-    ensures { result ≡ capped (tailSize (paperHeader header) id text count body) }
+    ensures { result ≡ capped (tail_size (paper_header header) id text count body) }
 {
     let warnings = warnings_size(header, text, count);
     let with_id = plus(warnings, id_size(header, id));
@@ -102,7 +102,7 @@ fn tail_size(header: Header, id: usize, text: usize, count: usize, body: usize) 
 }
 
 fn check_warnings(header: Header, text: &[u8], lens: &[usize]) -> Writable
-    ensures { paperWritable result ≡ warningsCheck (paperHeader header) text.now lens.now }
+    ensures { paper_writable result ≡ warnings_check (paper_header header) text.now lens.now }
 {
     if head::has_warnings(header) {
         inner::check_list(text, lens)
@@ -113,7 +113,7 @@ fn check_warnings(header: Header, text: &[u8], lens: &[usize]) -> Writable
 
 fn first_byte(header: Header) -> u8
     requires { header.version ≤ 127 }
-    ensures { result ≡ firstByte (paperHeader header) }
+    ensures { result ≡ first_byte (paper_header header) }
 {
     let version = header.version;
     let direction = header.direction;
@@ -126,7 +126,7 @@ fn first_byte(header: Header) -> u8
 // The header of an envelope with n bytes behind it.
 fn put_header(out: &mut [u8], header: Header, n: usize)
     requires { (9 ≤ length out.old) × (header.version ≤ 127) }
-    ensures { out.new ≡ put out.old 0 (headerBytes (paperHeader header) n) }
+    ensures { out.new ≡ put out.old 0 (header_bytes (paper_header header) n) }
 {
     let flags = header.flags;
     let opcode = header.opcode;
@@ -141,8 +141,8 @@ fn put_header(out: &mut [u8], header: Header, n: usize)
 
 // The tracing id, where it is written; the position behind it.
 fn put_id(out: &mut [u8], at: usize, header: Header, id: &[u8]) -> usize
-    requires { at + length (idPart (paperHeader header) id.now) ≤ length out.old }
-    ensures { (result ≡ at + length (idPart (paperHeader header) id.now)) × (out.new ≡ put out.old at (idPart (paperHeader header) id.now)) }
+    requires { at + length (id_part (paper_header header) id.now) ≤ length out.old }
+    ensures { (result ≡ at + length (id_part (paper_header header) id.now)) × (out.new ≡ put out.old at (id_part (paper_header header) id.now)) }
 {
     if head::has_id(header) {
         inner::put_bytes(out, at, id);
@@ -153,8 +153,8 @@ fn put_id(out: &mut [u8], at: usize, header: Header, id: &[u8]) -> usize
 
 // The warnings, where they are written; the position behind them.
 fn put_warnings(out: &mut [u8], at: usize, header: Header, text: &[u8], lens: &[usize]) -> usize
-    requires { (warningsCheck (paperHeader header) text.now lens.now ≡ fine) × (at + length (warningsPart (paperHeader header) text.now lens.now) ≤ length out.old) }
-    ensures { (result ≡ at + length (warningsPart (paperHeader header) text.now lens.now)) × (out.new ≡ put out.old at (warningsPart (paperHeader header) text.now lens.now)) }
+    requires { (warnings_check (paper_header header) text.now lens.now ≡ fine) × (at + length (warnings_part (paper_header header) text.now lens.now) ≤ length out.old) }
+    ensures { (result ≡ at + length (warnings_part (paper_header header) text.now lens.now)) × (out.new ≡ put out.old at (warnings_part (paper_header header) text.now lens.now)) }
 {
     if head::has_warnings(header) {
         inner::put_list(out, at, text, lens);
@@ -174,8 +174,8 @@ fn put_envelope(
     body: &[u8],
     tail: usize,
 ) -> Written
-    requires { Planned (paperHeader header) (content id.now text.now lens.now body.now) tail }
-    ensures { Wrote fine out.old 0 (envelopeBytes (paperHeader header) (content id.now text.now lens.now body.now)) (paperWritten result) out.new }
+    requires { Planned (paper_header header) (content id.now text.now lens.now body.now) tail }
+    ensures { Wrote fine out.old 0 (envelope_bytes (paper_header header) (content id.now text.now lens.now body.now)) (paper_written result) out.new }
 {
     let size = HEADER_LEN + tail;
     if inner::room(out.len(), 0, size) {
@@ -199,8 +199,8 @@ pub fn write_envelope(
     lens: &[usize],
     body: &[u8],
 ) -> Written
-    ensures { Wrote (envelopeCheck (paperHeader header) (content id.now text.now lens.now body.now)) out.old 0
-        (envelopeBytes (paperHeader header) (content id.now text.now lens.now body.now)) (paperWritten result) out.new }
+    ensures { Wrote (envelope_check (paper_header header) (content id.now text.now lens.now body.now)) out.old 0
+        (envelope_bytes (paper_header header) (content id.now text.now lens.now body.now)) (paper_written result) out.new }
 {
     if head_fits(header, id.len()) {
         let tail = tail_size(header, id.len(), text.len(), lens.len(), body.len());

@@ -7,50 +7,50 @@ use native.Mathlib.Omega.{arith}
 use lib.ListN.{length, take, drop, length-drop, drop_of_length-le}
 use lib.Seq.{length-take-le, take_all, take-take, drop-drop}
 use Rattle.basis.specs.Front.{Front, whole}
-use Rattle.basis.proofs.Fronts.{not-whole, refused-not-whole}
+use Rattle.basis.proofs.Fronts.{not_whole, refused_not_whole}
 use Rattle.refusal.specs.Refusal.{Refusal}
 use Rattle.types.specs.Number.{part}
 use Rattle.types.specs.Write.{put}
 use Rattle.types.proofs.Steady.{part_same}
-use Rattle.segment.specs.Header.{Form, Header, headerLength}
-use Rattle.segment.specs.Segment.{Segment, segmentLength, behind, payloadAt}
-use Rattle.segment.proofs.Cases.{Payloads, payload_cut, payload-differs, payload-good, payload-case}
+use Rattle.segment.specs.Header.{Form, Header, header_length}
+use Rattle.segment.specs.Segment.{Segment, segment_length, behind, payload_at}
+use Rattle.segment.proofs.Cases.{Payloads, payload_cut, payload_differs, payload_good, payload_case}
 
 -- what is unread of a payload that begins at h
-pub unread-part : (s : List ℕ) {k h : ℕ} (len at : ℕ) → k ≡ h → take (k + len - (k + at)) (drop (k + at) s) ≡ part s (h + at) (len - at)
-unread-part s {k} {h} len at e =
+pub unread_part : (s : List ℕ) {k h : ℕ} (len at : ℕ) → k ≡ h → take (k + len - (k + at)) (drop (k + at) s) ≡ part s (h + at) (len - at)
+unread_part s {k} {h} len at e =
     let n : k + len - (k + at) ≡ len - at = omega arith in
     ap (λ (i : ℕ). take i (drop (k + at) s)) n ∙ ap (λ (i : ℕ). part s (i + at) (len - at)) e
 
 -- a part up to the end is the tail
-pub tail-part : (d : List ℕ) (at : ℕ) → take (length d - at) (drop at d) ≡ drop at d
-tail-part d at = take_all (length d - at) (drop at d) (le_of_eq (length-drop at d))
+pub tail_part : (d : List ℕ) (at : ℕ) → take (length d - at) (drop at d) ≡ drop at d
+tail_part d at = take_all (length d - at) (drop at d) (le_of_eq (length-drop at d))
 
 -- the free tail of a buffer, lent and come back with bytes at its front
-pub tail-put : (d bs : List ℕ) (at : ℕ) {e : List ℕ} → e ≡ put (take (length d - at) (drop at d)) 0 bs → take at d ++ (e ++ drop (length d - at) (drop at d)) ≡ put d at bs
+pub tail_put : (d bs : List ℕ) (at : ℕ) {e : List ℕ} → e ≡ put (take (length d - at) (drop at d)) 0 bs → take at d ++ (e ++ drop (length d - at) (drop at d)) ≡ put d at bs
 unfolding put
-tail-put d bs at {e} p =
+tail_put d bs at {e} p =
     ap (λ (l : List ℕ). take at d ++ (e ++ l)) (drop_of_length-le (drop at d) (le_of_eq (length-drop at d)))
-    ∙ ap (λ (l : List ℕ). take at d ++ l) (append-nil e ∙ p ∙ ap (λ (l : List ℕ). put l 0 bs) (tail-part d at))
+    ∙ ap (λ (l : List ℕ). take at d ++ l) (append-nil e ∙ p ∙ ap (λ (l : List ℕ). put l 0 bs) (tail_part d at))
     ∙ ap (λ (k : ℕ). take at d ++ (bs ++ drop k (drop at d))) (zero-add (length bs))
     ∙ ap (λ (l : List ℕ). take at d ++ (bs ++ l)) (drop-drop (length bs) at d)
     ∙ sym (append_assoc (take at d) bs (drop (at + length bs) d))
 
 -- a part that ends before n is the same of the first n
-pub part-taken : (s : List ℕ) (n at k : ℕ) → at + k ≤ n → n ≤ length s → part (take n s) at k ≡ part s at k
-part-taken s n at k h room =
+pub part_taken : (s : List ℕ) (n at k : ℕ) → at + k ≤ n → n ≤ length s → part (take n s) at k ≡ part s at k
+part_taken s n at k h room =
     part_same s (take n s) at k (omega arith) (omega (arith, length-take-le n s room)) (take-take (at + k) n s h)
 
 -- ---- a segment that is whole in the first n bytes of a buffer
 
-whole-there : (f : Form) (s : List ℕ) (h : Header) {g : Segment} → payloadAt f s h ≡ whole g → segmentLength f h.payload ≤ length s
-whole-there f s h {g} e = go (payload-case f s h) e
+whole_there : (f : Form) (s : List ℕ) (h : Header) {g : Segment} → payload_at f s h ≡ whole g → segment_length f h.payload ≤ length s
+whole_there f s h {g} e = go (payload_case f s h) e
   where
-    go : {r : Front Refusal Segment} → Payloads f s h r → r ≡ whole g → segmentLength f h.payload ≤ length s
-    go (payload_cut l) q = absurd (not-whole q)
-    go (payload-differs l c) q = absurd (refused-not-whole q)
-    go (payload-good l c) q = l
+    go : {r : Front Refusal Segment} → Payloads f s h r → r ≡ whole g → segment_length f h.payload ≤ length s
+    go (payload_cut l) q = absurd (not_whole q)
+    go (payload_differs l c) q = absurd (refused_not_whole q)
+    go (payload_good l c) q = l
 
 -- its payload stands in the buffer
-pub whole-payload : (f : Form) (s : List ℕ) (n : ℕ) (h : Header) → n ≤ length s → payloadAt f (take n s) h ≡ whole (behind f (take n s) h) → part (take n s) (headerLength f) h.payload ≡ part s (headerLength f) h.payload
-whole-payload f s n h room e = part-taken s n (headerLength f) h.payload (omega (arith, whole-there f (take n s) h e, length-take-le n s room)) room
+pub whole_payload : (f : Form) (s : List ℕ) (n : ℕ) (h : Header) → n ≤ length s → payload_at f (take n s) h ≡ whole (behind f (take n s) h) → part (take n s) (header_length f) h.payload ≡ part s (header_length f) h.payload
+whole_payload f s n h room e = part_taken s n (header_length f) h.payload (omega (arith, whole_there f (take n s) h e, length-take-le n s room)) room

@@ -2,23 +2,23 @@
 use Prim.Native.Nat.{ℕ}
 use mathlib.Core.Path.{◌≡◌, sym, ap, ◌∙◌, subst}
 use mathlib.Core.List.{List}
-use Rattle.segment.specs.Paper.{paperForm}
-use Rattle.frame_decoder.specs.Reader.{Counts, countsIn, countsOf}
-use Rattle.frame_decoder.specs.Settle.{Settled, settleAt, settle}
-use Rattle.frame_decoder.specs.Paper.{paperPhase, paperReader}
+use Rattle.segment.specs.Paper.{paper_form}
+use Rattle.frame_decoder.specs.Reader.{Counts, counts_in, counts_of}
+use Rattle.frame_decoder.specs.Settle.{Settled, settle_at, settle}
+use Rattle.frame_decoder.specs.Paper.{paper_phase, paper_reader}
 use Rattle.frame_decoder.specs.declared.Phase.{Phase}
 use Rattle.frame_decoder.specs.declared.FrameDecoder.{FrameDecoder}
 
-abbrev pub countsBy : FrameDecoder → Phase → Counts
-countsBy m q = countsIn (paperForm m.form) m.pending (paperPhase q)
+abbrev pub counts_by : FrameDecoder → Phase → Counts
+counts_by m q = counts_in (paper_form m.form) m.pending (paper_phase q)
 
 module _ (m : FrameDecoder) {q : Phase} (is : m.phase ≡ q) where
-  pub counts-by : countsBy m q ≡ countsOf (paperReader m)
-  counts-by = sym (ap (countsBy m) is)
+  pub counts_by_lem : counts_by m q ≡ counts_of (paper_reader m)
+  counts_by_lem = sym (ap (counts_by m) is)
 
-  pub known_by : (P : Counts → Type 0) → P (countsOf (paperReader m)) → P (countsBy m q)
-  known_by P = subst (λ (p : Phase). P (countsBy m p)) is
+  pub known_by : (P : Counts → Type 0) → P (counts_of (paper_reader m)) → P (counts_by m q)
+  known_by P = subst (λ (p : Phase). P (counts_by m p)) is
 
-  pub settles-by : (segment reassembly : List ℕ) {s : Settled} → s ≡ settleAt (paperReader m) segment reassembly (paperPhase q) → s ≡ settle (paperReader m) segment reassembly
+  pub settles_by : (segment reassembly : List ℕ) {s : Settled} → s ≡ settle_at (paper_reader m) segment reassembly (paper_phase q) → s ≡ settle (paper_reader m) segment reassembly
   unfolding settle
-  settles-by segment reassembly e = e ∙ sym (ap (λ (p : Phase). settleAt (paperReader m) segment reassembly (paperPhase p)) is)
+  settles_by segment reassembly e = e ∙ sym (ap (λ (p : Phase). settle_at (paper_reader m) segment reassembly (paper_phase p)) is)

@@ -1,10 +1,10 @@
 -- What the values and answers of the code mean. Assumes nothing.
 use Rattle.std.specs.Prelude.{List, ℕ}
-use Rattle.refusal.specs.Refusal.{paperRefusal}
+use Rattle.refusal.specs.Refusal.{paper_refusal}
 use Rattle.types.specs.Paper.{place_of}
-use Rattle.segment.specs.Paper.{paperForm}
-use Rattle.frame.specs.Paper.{paperEnvelope}
-use Rattle.frame_decoder.specs.Reader.{Phase, inHeader, inRest, inSegment, inReassembly, stopped, Reader, Buffer, segmentBuffer, reassemblyBuffer, Answer, envelopeAt, leftover, more, refused}
+use Rattle.segment.specs.Paper.{paper_form}
+use Rattle.frame.specs.Paper.{paper_envelope}
+use Rattle.frame_decoder.specs.Reader.{Phase, in_header, in_rest, in_segment, in_reassembly, stopped, Reader, Buffer, segment_buffer, reassembly_buffer, Answer, envelope_at, leftover, more, refused}
 use Rattle.frame_decoder.specs.Call.{Outcome, outcome}
 use Rattle.frame_decoder.specs.declared.Phase as code-phase
 use Rattle.frame_decoder.specs.declared.FrameDecoder as code-decoder
@@ -13,36 +13,36 @@ use Rattle.frame_decoder.specs.declared.Answer as code-answer
 use Rattle.frame_decoder.specs.declared.Heard.{Heard}
 use Rattle.frame_decoder.specs.declared.Step.{Step}
 
-abbrev pub paperPhase : code-phase.Phase → Phase
-paperPhase (code-phase.Phase.Header filled) = inHeader filled
-paperPhase (code-phase.Phase.Rest filled len self) = inRest filled len self
-paperPhase (code-phase.Phase.InSegment len at) = inSegment len at
-paperPhase (code-phase.Phase.InReassembly at) = inReassembly at
-paperPhase (code-phase.Phase.Stopped e) = stopped (paperRefusal e)
+abbrev pub paper_phase : code-phase.Phase → Phase
+paper_phase (code-phase.Phase.Header filled) = in_header filled
+paper_phase (code-phase.Phase.Rest filled len self) = in_rest filled len self
+paper_phase (code-phase.Phase.InSegment len at) = in_segment len at
+paper_phase (code-phase.Phase.InReassembly at) = in_reassembly at
+paper_phase (code-phase.Phase.Stopped e) = stopped (paper_refusal e)
 
-abbrev pub paperReader : code-decoder.FrameDecoder → Reader
-paperReader r =
+abbrev pub paper_reader : code-decoder.FrameDecoder → Reader
+paper_reader r =
     record {
-      form = paperForm r.form;
+      form = paper_form r.form;
       segment = r.segment_len;
       reassembly = r.reassembly_len;
       pending = r.pending;
-      phase = paperPhase r.phase;
+      phase = paper_phase r.phase;
     }
 
-abbrev pub paperBuffer : code-buffer.Buffer → Buffer
-paperBuffer code-buffer.Buffer.Segment = segmentBuffer
-paperBuffer code-buffer.Buffer.Reassembly = reassemblyBuffer
+abbrev pub paper_buffer : code-buffer.Buffer → Buffer
+paper_buffer code-buffer.Buffer.Segment = segment_buffer
+paper_buffer code-buffer.Buffer.Reassembly = reassembly_buffer
 
-abbrev pub paperAnswer : code-answer.Answer → Answer
-paperAnswer (code-answer.Answer.Envelope buffer place e) = envelopeAt (paperBuffer buffer) (place_of place) (paperEnvelope e)
-paperAnswer (code-answer.Answer.Leftover n) = leftover n
-paperAnswer code-answer.Answer.More = more
-paperAnswer (code-answer.Answer.Refused e) = refused (paperRefusal e)
+abbrev pub paper_answer : code-answer.Answer → Answer
+paper_answer (code-answer.Answer.Envelope buffer place e) = envelope_at (paper_buffer buffer) (place_of place) (paper_envelope e)
+paper_answer (code-answer.Answer.Leftover n) = leftover n
+paper_answer code-answer.Answer.More = more
+paper_answer (code-answer.Answer.Refused e) = refused (paper_refusal e)
 
 -- what was heard, together with the reader and what the buffers then hold
-abbrev pub paperHeard : Heard → code-decoder.FrameDecoder → List ℕ → List ℕ → Outcome
-paperHeard h r segment reassembly = outcome (paperAnswer h.answer) h.taken (paperReader r) segment reassembly
+abbrev pub paper_heard : Heard → code-decoder.FrameDecoder → List ℕ → List ℕ → Outcome
+paper_heard h r segment reassembly = outcome (paper_answer h.answer) h.taken (paper_reader r) segment reassembly
 
-abbrev pub paperStep : Step → List ℕ → List ℕ → Outcome
-paperStep s segment reassembly = paperHeard s.heard s.reader segment reassembly
+abbrev pub paper_step : Step → List ℕ → List ℕ → Outcome
+paper_step s segment reassembly = paper_heard s.heard s.reader segment reassembly

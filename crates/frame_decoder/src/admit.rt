@@ -1,16 +1,16 @@
 // Refusal 1: the lengths that are lent, and the counts of a state.
 ghost use Rattle.std.specs.Prelude.{◌≡◌, true, ◌≤◌};
-ghost use Rattle.segment.specs.Segment.{maxPayload};
-ghost use Rattle.segment.specs.Paper.{paperForm};
-ghost use Rattle.frame_decoder.specs.Reader.{countsOf, payloadFits, countsLie, admissible, heldIn};
-ghost use Rattle.frame_decoder.specs.Paper.{paperReader};
+ghost use Rattle.segment.specs.Segment.{max_payload};
+ghost use Rattle.segment.specs.Paper.{paper_form};
+ghost use Rattle.frame_decoder.specs.Reader.{counts_of, payload_fits, counts_lie, admissible, held_in};
+ghost use Rattle.frame_decoder.specs.Paper.{paper_reader};
 
 use crate::{FrameDecoder, Phase, in_range};
 use segment::{Form, MAX_PAYLOAD, TRAILER_LEN, header_len};
 use types::inner;
 
 fn payload_fits(form: Form, room: usize, len: usize) -> bool
-    ensures { result ≡ payloadFits (paperForm form) room len }
+    ensures { result ≡ payload_fits (paper_form form) room len }
 {
     let around = header_len(form) + TRAILER_LEN;
     let within = inner::room(room, around, len);
@@ -19,7 +19,7 @@ fn payload_fits(form: Form, room: usize, len: usize) -> bool
 
 // How long a payload its header told of.
 fn payload_len(m: FrameDecoder) -> usize
-    ensures { result ≡ (countsOf (paperReader m)).payload }
+    ensures { result ≡ (counts_of (paper_reader m)).payload }
 {
     let phase = m.phase;
     match phase {
@@ -36,8 +36,8 @@ fn payload_len(m: FrameDecoder) -> usize
 }
 
 fn counts_lie(m: FrameDecoder) -> bool
-    requires { (countsOf (paperReader m)).payload ≤ maxPayload }
-    ensures { result ≡ countsLie (countsOf (paperReader m)) }
+    requires { (counts_of (paper_reader m)).payload ≤ max_payload }
+    ensures { result ≡ counts_lie (counts_of (paper_reader m)) }
 {
     let form = m.form;
     let phase = m.phase;
@@ -56,7 +56,7 @@ fn counts_lie(m: FrameDecoder) -> bool
 
 // Where this is false, a call that is lent buffers of these lengths refuses with 1.
 pub(crate) fn is_admissible(m: FrameDecoder, a: usize, b: usize) -> bool
-    ensures { result ≡ admissible (paperReader m) a b }
+    ensures { result ≡ admissible (paper_reader m) a b }
 {
     let form = m.form;
     let pending = m.pending;
@@ -69,8 +69,8 @@ pub(crate) fn is_admissible(m: FrameDecoder, a: usize, b: usize) -> bool
 }
 
 pub(crate) fn held_in(m: FrameDecoder) -> usize
-    requires { admissible (paperReader m) m.segment_len m.reassembly_len ≡ true }
-    ensures { result ≡ heldIn (countsOf (paperReader m)) }
+    requires { admissible (paper_reader m) m.segment_len m.reassembly_len ≡ true }
+    ensures { result ≡ held_in (counts_of (paper_reader m)) }
 {
     let pending = m.pending;
     let phase = m.phase;

@@ -2,10 +2,10 @@
 // `specs/Paper.antt` says what each case of a state or an answer means.
 ghost use Rattle.std.specs.Prelude.{◌≡◌};
 ghost use Rattle.types.specs.Paper.{place_of};
-ghost use Rattle.segment.specs.Paper.{paperForm};
-ghost use Rattle.frame_decoder.specs.Reader.{keeping, inPhase, fresh, bytes_at, countsOf, in_range, held};
+ghost use Rattle.segment.specs.Paper.{paper_form};
+ghost use Rattle.frame_decoder.specs.Reader.{keeping, in_phase, fresh, bytes_at, counts_of, in_range, held};
 ghost use Rattle.frame_decoder.specs.Call.{call};
-ghost use Rattle.frame_decoder.specs.Paper.{paperPhase, paperReader, paperBuffer, paperHeard, paperStep};
+ghost use Rattle.frame_decoder.specs.Paper.{paper_phase, paper_reader, paper_buffer, paper_heard, paper_step};
 
 use frame::Envelope;
 use refusal::Refusal;
@@ -100,7 +100,7 @@ pub struct Step {
 
 // The bytes of an envelope's place: none where it runs past the end of its buffer.
 pub fn part<'a>(buffer: Buffer, segment: &'a [u8], reassembly: &'a [u8], place: Place) -> &'a [u8]
-    ensures { result.now ≡ bytes_at (paperBuffer buffer) segment.now reassembly.now (place_of place) }
+    ensures { result.now ≡ bytes_at (paper_buffer buffer) segment.now reassembly.now (place_of place) }
 {
     match buffer {
         Buffer::Segment => types::part(segment, place),
@@ -111,7 +111,7 @@ pub fn part<'a>(buffer: Buffer, segment: &'a [u8], reassembly: &'a [u8], place: 
 impl FrameDecoder {
     // Never refuses: each call tests the lengths.
     pub fn new(form: Form, segment_len: usize, reassembly_len: usize) -> FrameDecoder
-        ensures { paperReader result ≡ fresh (paperForm form) segment_len reassembly_len }
+        ensures { paper_reader result ≡ fresh (paper_form form) segment_len reassembly_len }
     {
         let phase = Phase::Header { filled: 0 };
         FrameDecoder {
@@ -124,7 +124,7 @@ impl FrameDecoder {
     }
 
     pub(crate) fn in_phase(self, phase: Phase) -> FrameDecoder
-        ensures { paperReader result ≡ inPhase (paperReader self) (paperPhase phase) }
+        ensures { paper_reader result ≡ in_phase (paper_reader self) (paper_phase phase) }
     {
         let form = self.form;
         FrameDecoder {
@@ -137,14 +137,14 @@ impl FrameDecoder {
     }
 
     fn with_pending(mut self, pending: usize) -> FrameDecoder
-        ensures { paperReader result ≡ keeping (paperReader self) pending (paperPhase self.phase) }
+        ensures { paper_reader result ≡ keeping (paper_reader self) pending (paper_phase self.phase) }
     {
         self.pending = pending;
         self
     }
 
     pub(crate) fn kept(self, pending: usize, phase: Phase) -> FrameDecoder
-        ensures { paperReader result ≡ keeping (paperReader self) pending (paperPhase phase) }
+        ensures { paper_reader result ≡ keeping (paper_reader self) pending (paper_phase phase) }
     {
         let next = self.in_phase(phase);
         next.with_pending(pending)
@@ -152,7 +152,7 @@ impl FrameDecoder {
 
     // How many bytes of an unfinished segment are there.
     pub fn filled(self) -> usize
-        ensures { result ≡ (countsOf (paperReader self)).there }
+        ensures { result ≡ (counts_of (paper_reader self)).there }
     {
         let phase = self.phase;
         match phase {
@@ -170,7 +170,7 @@ impl FrameDecoder {
 
     // How many bytes are held: those of an unfinished segment, and those pending.
     pub fn held(self) -> usize
-        ensures { result ≡ held (paperReader self) }
+        ensures { result ≡ held (paper_reader self) }
     {
         let segment_len = self.segment_len;
         let reassembly_len = self.reassembly_len;
@@ -182,7 +182,7 @@ impl FrameDecoder {
 
     // Works on to the first answer that is due, and takes no byte beyond.
     pub fn read(self, segment: &mut [u8], reassembly: &mut [u8], piece: &[u8]) -> Step
-        ensures { paperStep result segment.new reassembly.new ≡ call (paperReader self) segment.old reassembly.old piece.now }
+        ensures { paper_step result segment.new reassembly.new ≡ call (paper_reader self) segment.old reassembly.old piece.now }
     {
         if admit::is_admissible(self, segment.len(), reassembly.len()) {
             return work::work(self, segment, reassembly, piece);
@@ -193,7 +193,7 @@ impl FrameDecoder {
 
     // The Rust's outer shape: the reader is lent, and the next one is stored in its place.
     pub fn consume(&mut self, segment: &mut [u8], reassembly: &mut [u8], piece: &[u8]) -> Heard
-        ensures { paperHeard result self.new segment.new reassembly.new ≡ call (paperReader self.old) segment.old reassembly.old piece.now }
+        ensures { paper_heard result self.new segment.new reassembly.new ≡ call (paper_reader self.old) segment.old reassembly.old piece.now }
     {
         let t = self.read(segment, reassembly, piece);
         *self = t.reader;

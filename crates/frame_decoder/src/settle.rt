@@ -1,14 +1,14 @@
 // What is due without another byte, up to the first answer.
 ghost use Rattle.std.specs.Prelude.{◌≡◌, ◌+◌, ◌≤◌, length, take};
 ghost use Rattle.basis.specs.Front.{whole};
-ghost use Rattle.refusal.specs.Refusal.{paperRefusal};
+ghost use Rattle.refusal.specs.Refusal.{paper_refusal};
 ghost use Rattle.types.specs.Number.{part};
-ghost use Rattle.segment.specs.Header.{headerLength, header as fieldsAre};
-ghost use Rattle.segment.specs.Segment.{maxPayload, segmentLength, header_at, payloadAt};
-ghost use Rattle.segment.specs.Paper.{paperForm, paperHeader};
-ghost use Rattle.frame_decoder.specs.Settle.{settled, refusing, headerDue, leftoverDue, readSegment, movedDown, readPending, readJoined, segmentDue, settle};
-ghost use Rattle.frame_decoder.specs.Paper.{paperReader};
-ghost use Rattle.frame_decoder.specs.Private.Inside.{paperDue, Admitted};
+ghost use Rattle.segment.specs.Header.{header_length, header as fieldsAre};
+ghost use Rattle.segment.specs.Segment.{max_payload, segment_length, header_at, payload_at};
+ghost use Rattle.segment.specs.Paper.{paper_form, paper_header};
+ghost use Rattle.frame_decoder.specs.Settle.{settled, refusing, header_due, leftover_due, read_segment, moved_down, read_pending, read_joined, segment_due, settle};
+ghost use Rattle.frame_decoder.specs.Paper.{paper_reader};
+ghost use Rattle.frame_decoder.specs.Private.Inside.{paper_due, Admitted};
 
 use crate::{Answer, Buffer, FrameDecoder, Phase};
 use frame::Reading;
@@ -29,7 +29,7 @@ pub(crate) enum Due {
 
 // Any refusal stops the reader.
 fn refuse(m: FrameDecoder, e: Refusal) -> Due
-    ensures { paperDue result ≡ refusing (paperRefusal e) (paperReader m) }
+    ensures { paper_due result ≡ refusing (paper_refusal e) (paper_reader m) }
 {
     let reader = m.in_phase(Phase::Stopped(e));
     Due::Answered(Answer::Refused(e), reader)
@@ -37,7 +37,7 @@ fn refuse(m: FrameDecoder, e: Refusal) -> Due
 
 // A header that is there and passed its checks: 4.
 fn passed(m: FrameDecoder, filled: usize, room: usize, header: Header) -> Due
-    ensures { paperDue result ≡ headerDue (paperReader m) filled room (whole (paperHeader header)) }
+    ensures { paper_due result ≡ header_due (paper_reader m) filled room (whole (paper_header header)) }
 {
     let form = m.form;
     let len = header.payload as usize;
@@ -58,7 +58,7 @@ fn passed(m: FrameDecoder, filled: usize, room: usize, header: Header) -> Due
 // So many bytes of a header are there: 2, 3, 4.
 fn header_due(m: FrameDecoder, segment: &[u8], filled: usize) -> Due
     requires { filled ≤ length segment.now }
-    ensures { paperDue result ≡ headerDue (paperReader m) filled (length segment.now) (header_at (paperForm m.form) (take filled segment.now)) }
+    ensures { paper_due result ≡ header_due (paper_reader m) filled (length segment.now) (header_at (paper_form m.form) (take filled segment.now)) }
 {
     let form = m.form;
     match read_header(form, &segment[..filled]) {
@@ -70,7 +70,7 @@ fn header_due(m: FrameDecoder, segment: &[u8], filled: usize) -> Due
 
 // A self-contained payload is read: what is left of it is dropped.
 fn left_over(m: FrameDecoder, n: usize) -> Due
-    ensures { paperDue result ≡ leftoverDue (paperReader m) n }
+    ensures { paper_due result ≡ leftover_due (paper_reader m) n }
 {
     let reader = m.in_phase(Phase::Header { filled: 0 });
     if n == 0 {
@@ -81,8 +81,8 @@ fn left_over(m: FrameDecoder, n: usize) -> Due
 
 // The next envelope of a self-contained payload, where it stands in the middle of the segment buffer.
 fn from_segment(m: FrameDecoder, segment: &[u8], len: usize, at: usize) -> Due
-    requires { (at ≤ len) × (headerLength (paperForm m.form) + len ≤ length segment.now) }
-    ensures { paperDue result ≡ readSegment (paperReader m) segment.now len at }
+    requires { (at ≤ len) × (header_length (paper_form m.form) + len ≤ length segment.now) }
+    ensures { paper_due result ≡ read_segment (paper_reader m) segment.now len at }
 {
     let form = m.form;
     let head = header_len(form);
@@ -106,7 +106,7 @@ fn from_segment(m: FrameDecoder, segment: &[u8], len: usize, at: usize) -> Due
 // takes and reads.
 fn move_down(buffer: &mut [u8], at: usize, n: usize)
     requires { at + n ≤ length buffer.old }
-    ensures { buffer.new ≡ movedDown buffer.old at n }
+    ensures { buffer.new ≡ moved_down buffer.old at n }
 {
     if at == 0 {
         return;
@@ -121,7 +121,7 @@ fn move_down(buffer: &mut [u8], at: usize, n: usize)
 // The next envelope of the pending bytes; where there is none, those unread are moved to the front.
 fn from_pending(m: FrameDecoder, reassembly: &mut [u8], at: usize) -> Due
     requires { (at ≤ m.pending) × (m.pending ≤ length reassembly.old) }
-    ensures { settled (paperDue result) reassembly.new ≡ readPending (paperReader m) reassembly.old at }
+    ensures { settled (paper_due result) reassembly.new ≡ read_pending (paper_reader m) reassembly.old at }
 {
     let end = m.pending;
     let reading = read_envelope(&reassembly[at..end]);
@@ -150,7 +150,7 @@ fn from_pending(m: FrameDecoder, reassembly: &mut [u8], at: usize) -> Due
 // A segment that is not self-contained: 7, or its payload is appended, into the free tail of the reassembly buffer.
 fn append(m: FrameDecoder, payload: &[u8], reassembly: &mut [u8]) -> Due
     requires { m.pending ≤ length reassembly.old }
-    ensures { settled (paperDue result) reassembly.new ≡ readJoined (paperReader m) reassembly.old payload.now }
+    ensures { settled (paper_due result) reassembly.new ≡ read_joined (paper_reader m) reassembly.old payload.now }
 {
     let pending = m.pending;
     let len = payload.len();
@@ -171,8 +171,8 @@ fn segment_due(
     len: usize,
     self_contained: bool,
 ) -> Due
-    requires { (len ≤ maxPayload) × (segmentLength (paperForm m.form) len ≤ length segment.now) × (filled ≤ segmentLength (paperForm m.form) len) × (m.pending ≤ length reassembly.old) }
-    ensures { settled (paperDue result) reassembly.new ≡ segmentDue (paperReader m) segment.now reassembly.old len (payloadAt (paperForm m.form) (take filled segment.now) (fieldsAre len 0 self_contained)) }
+    requires { (len ≤ max_payload) × (segment_length (paper_form m.form) len ≤ length segment.now) × (filled ≤ segment_length (paper_form m.form) len) × (m.pending ≤ length reassembly.old) }
+    ensures { settled (paper_due result) reassembly.new ≡ segment_due (paper_reader m) segment.now reassembly.old len (payload_at (paper_form m.form) (take filled segment.now) (fieldsAre len 0 self_contained)) }
 {
     let form = m.form;
     let header = Header {
@@ -200,8 +200,8 @@ fn segment_due(
 }
 
 pub(crate) fn settle(m: FrameDecoder, segment: &[u8], reassembly: &mut [u8]) -> Due
-    requires { Admitted (paperReader m) (length segment.now) (length reassembly.old) }
-    ensures { settled (paperDue result) reassembly.new ≡ settle (paperReader m) segment.now reassembly.old }
+    requires { Admitted (paper_reader m) (length segment.now) (length reassembly.old) }
+    ensures { settled (paper_due result) reassembly.new ≡ settle (paper_reader m) segment.now reassembly.old }
 {
     let phase = m.phase;
     match phase {

@@ -1,9 +1,9 @@
 // One call: settling and taking bytes in turn, a run of bytes at a time.
 ghost use Rattle.std.specs.Prelude.{◌≡◌, ◌-◌, ◌≤◌, min, length, take};
 ghost use Rattle.types.specs.Write.{put};
-ghost use Rattle.frame_decoder.specs.Reader.{pushed, countsOf, maxSegment};
+ghost use Rattle.frame_decoder.specs.Reader.{pushed, counts_of, max_segment};
 ghost use Rattle.frame_decoder.specs.Call.{work};
-ghost use Rattle.frame_decoder.specs.Paper.{paperReader, paperStep};
+ghost use Rattle.frame_decoder.specs.Paper.{paper_reader, paper_step};
 ghost use Rattle.frame_decoder.specs.Private.Inside.{Admitted, wanted, Roomy, step_of, FilledIs, TurnIs};
 
 use crate::settle::{Due, settle};
@@ -36,8 +36,8 @@ fn fill_up(segment: &mut [u8], filled: usize, end: usize, bytes: &[u8]) -> usize
 
 // With how many bytes a header or a segment is judged next.
 fn goal(m: FrameDecoder) -> usize
-    requires { (countsOf (paperReader m)).goal ≤ maxSegment }
-    ensures { result ≡ (countsOf (paperReader m)).goal }
+    requires { (counts_of (paper_reader m)).goal ≤ max_segment }
+    ensures { result ≡ (counts_of (paper_reader m)).goal }
 {
     let form = m.form;
     let phase = m.phase;
@@ -56,8 +56,8 @@ fn goal(m: FrameDecoder) -> usize
 
 // So many more are there.
 fn pushed(m: FrameDecoder, k: usize) -> FrameDecoder
-    requires { (k ≤ wanted (countsOf (paperReader m))) × ((countsOf (paperReader m)).goal ≤ maxSegment) }
-    ensures { paperReader result ≡ pushed k (paperReader m) }
+    requires { (k ≤ wanted (counts_of (paper_reader m))) × ((counts_of (paper_reader m)).goal ≤ max_segment) }
+    ensures { paper_reader result ≡ pushed k (paper_reader m) }
 {
     let phase = m.phase;
     match phase {
@@ -82,8 +82,8 @@ fn pushed(m: FrameDecoder, k: usize) -> FrameDecoder
 
 // Takes what is still to come of the header or the segment, as far as the bytes go, and answers how many.
 fn fill(m: FrameDecoder, segment: &mut [u8], bytes: &[u8]) -> usize
-    requires { Roomy (length segment.old) (countsOf (paperReader m)) × (length segment.old ≤ maxSegment) }
-    ensures { FilledIs result (paperReader m) segment.old segment.new bytes.now }
+    requires { Roomy (length segment.old) (counts_of (paper_reader m)) × (length segment.old ≤ max_segment) }
+    ensures { FilledIs result (paper_reader m) segment.old segment.new bytes.now }
 {
     let filled = m.filled();
     fill_up(segment, filled, goal(m), bytes)
@@ -104,8 +104,8 @@ fn take_turn(
     reassembly: &mut [u8],
     piece: &[u8],
 ) -> Turn
-    requires { Admitted (paperReader m) (length segment.old) (length reassembly.old) × (taken ≤ length piece.now) }
-    ensures { TurnIs result taken (paperReader m) segment.old reassembly.old piece.now segment.new reassembly.new }
+    requires { Admitted (paper_reader m) (length segment.old) (length reassembly.old) × (taken ≤ length piece.now) }
+    ensures { TurnIs result taken (paper_reader m) segment.old reassembly.old piece.now segment.new reassembly.new }
 {
     match settle(m, segment, reassembly) {
         Due::Answered(answer, reader) => Turn::Done(step(reader, answer, taken)),
@@ -127,8 +127,8 @@ pub(crate) fn work(
     reassembly: &mut [u8],
     piece: &[u8],
 ) -> Step
-    requires { Admitted (paperReader reader) (length segment.old) (length reassembly.old) }
-    ensures { paperStep result segment.new reassembly.new ≡ work 0 (paperReader reader) segment.old reassembly.old piece.now }
+    requires { Admitted (paper_reader reader) (length segment.old) (length reassembly.old) }
+    ensures { paper_step result segment.new reassembly.new ≡ work 0 (paper_reader reader) segment.old reassembly.old piece.now }
 {
     let mut m = reader;
     let mut taken: usize = 0;

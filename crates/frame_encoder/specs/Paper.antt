@@ -1,19 +1,19 @@
 -- What the values and answers of the code mean. Assumes nothing.
 use Rattle.std.specs.Prelude.{List, ℕ}
-use Rattle.refusal.specs.Refusal.{paperRefusal}
-use Rattle.segment.specs.Paper.{paperForm}
+use Rattle.refusal.specs.Refusal.{paper_refusal}
+use Rattle.segment.specs.Paper.{paper_form}
 use Rattle.frame_encoder.specs.Writer.{Writer, writer, Reply, wrote, refused, Done, done}
 use Rattle.frame_encoder.specs.declared.FrameEncoder.{FrameEncoder}
 use Rattle.frame_encoder.specs.declared.Encoded.{Encoded}
 use Rattle.frame_encoder.specs.declared.Step.{Step}
 
-abbrev pub paperWriter : FrameEncoder → Writer
-paperWriter e = writer (paperForm e.form) e.payload
+abbrev pub paper_writer : FrameEncoder → Writer
+paper_writer e = writer (paper_form e.form) e.payload
 
-abbrev pub paperEncoded : Encoded → Reply
-paperEncoded (Encoded.Wrote size taken) = wrote size taken
-paperEncoded (Encoded.Refused e) = refused (paperRefusal e)
+abbrev pub paper_encoded : Encoded → Reply
+paper_encoded (Encoded.Wrote size taken) = wrote size taken
+paper_encoded (Encoded.Refused e) = refused (paper_refusal e)
 
 -- a step, together with what the output then holds
-abbrev pub paperStep : Step → List ℕ → Done
-paperStep s output = done (paperWriter s.encoder) (paperEncoded s.answer) output
+abbrev pub paper_step : Step → List ℕ → Done
+paper_step s output = done (paper_writer s.encoder) (paper_encoded s.answer) output

@@ -1,10 +1,10 @@
 -- A segment writer, call by call: docs/RULES.md, section 8. Assumes nothing.
 use Rattle.std.specs.Prelude.{ℕ, ◌+◌, Bool, true, false, cond, List, ltb, leb, eqb, length, take}
-use Rattle.refusal.specs.Refusal.{Refusal, inadmissible, outputTooShort, envelopeDoesNotFit, segmentNotEmpty}
+use Rattle.refusal.specs.Refusal.{Refusal, inadmissible, output_too_short, envelope_does_not_fit, segment_not_empty}
 use Rattle.types.specs.Number.{part}
 use Rattle.types.specs.Write.{put, Check, fine, against, demand}
-use Rattle.segment.specs.Header.{Form, headerLength, lengths}
-use Rattle.segment.specs.Segment.{maxPayload, segmentLength, segmentBytes}
+use Rattle.segment.specs.Header.{Form, header_length, lengths}
+use Rattle.segment.specs.Segment.{max_payload, segment_length, segment_bytes}
 
 -- its form, and the length of the payload so far
 pub record Writer : Type 0 where
@@ -42,47 +42,47 @@ fits w n = ltb (w.payload + n) lengths
 
 -- an output has room for header, payload and trailer
 abbrev pub room_for : Writer → ℕ → ℕ → Bool
-room_for w n room = leb (segmentLength w.form n) room
+room_for w n room = leb (segment_length w.form n) room
 
 -- ---- 8.2: an envelope is added
 
-unfoldable pub addCheck : Writer → ℕ → ℕ → Check
-addCheck w room n =
-    demand (leb w.payload maxPayload) inadmissible
-    (demand (fits w n) envelopeDoesNotFit
-    (demand (room_for w (w.payload + n) room) outputTooShort fine))
+unfoldable pub add_check : Writer → ℕ → ℕ → Check
+add_check w room n =
+    demand (leb w.payload max_payload) inadmissible
+    (demand (fits w n) envelope_does_not_fit
+    (demand (room_for w (w.payload + n) room) output_too_short fine))
 
 unfoldable pub add : Writer → List ℕ → List ℕ → Done
 add w out envelope =
-    unless (addCheck w (length out) (length envelope)) w out
-    (done (writer w.form (w.payload + length envelope)) (wrote (length envelope) (length envelope)) (put out (headerLength w.form + w.payload) envelope))
+    unless (add_check w (length out) (length envelope)) w out
+    (done (writer w.form (w.payload + length envelope)) (wrote (length envelope) (length envelope)) (put out (header_length w.form + w.payload) envelope))
 
 -- ---- 8.3: what stands there is finished
 
-unfoldable pub finishCheck : Writer → ℕ → Check
-finishCheck w room =
-    demand (leb w.payload maxPayload) inadmissible
-    (demand (room_for w w.payload room) outputTooShort fine)
+unfoldable pub finish_check : Writer → ℕ → Check
+finish_check w room =
+    demand (leb w.payload max_payload) inadmissible
+    (demand (room_for w w.payload room) output_too_short fine)
 
 unfoldable pub finish : Writer → List ℕ → Done
 finish w out =
-    unless (finishCheck w (length out)) w out
-    (done (fresh w.form) (wrote (segmentLength w.form w.payload) 0) (put out 0 (segmentBytes w.form true (part out (headerLength w.form) w.payload))))
+    unless (finish_check w (length out)) w out
+    (done (fresh w.form) (wrote (segment_length w.form w.payload) 0) (put out 0 (segment_bytes w.form true (part out (header_length w.form) w.payload))))
 
 -- ---- 8.4: a piece of an envelope
 
 -- the smaller of its length and the longest payload
 unfoldable pub piece_of : ℕ → ℕ
-piece_of n = cond (leb n maxPayload) n maxPayload
+piece_of n = cond (leb n max_payload) n max_payload
 
-unfoldable pub pieceCheck : Writer → ℕ → ℕ → Check
-pieceCheck w room n =
-    demand (leb w.payload maxPayload) inadmissible
-    (demand (eqb w.payload 0) segmentNotEmpty
-    (demand (room_for w (piece_of n) room) outputTooShort fine))
+unfoldable pub piece_check : Writer → ℕ → ℕ → Check
+piece_check w room n =
+    demand (leb w.payload max_payload) inadmissible
+    (demand (eqb w.payload 0) segment_not_empty
+    (demand (room_for w (piece_of n) room) output_too_short fine))
 
 unfoldable pub piece : Writer → List ℕ → List ℕ → Done
 piece w out envelope =
-    unless (pieceCheck w (length out) (length envelope)) w out
-    (done (fresh w.form) (wrote (segmentLength w.form (piece_of (length envelope))) (piece_of (length envelope)))
-    (put out 0 (segmentBytes w.form false (take (piece_of (length envelope)) envelope))))
+    unless (piece_check w (length out) (length envelope)) w out
+    (done (fresh w.form) (wrote (segment_length w.form (piece_of (length envelope))) (piece_of (length envelope)))
+    (put out 0 (segment_bytes w.form false (take (piece_of (length envelope)) envelope))))

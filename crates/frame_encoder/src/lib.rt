@@ -2,13 +2,13 @@
 // `specs/Paper.antt` says what each case of an answer means.
 ghost use Rattle.std.specs.Prelude.{◌≡◌, ◌+◌, ◌≤◌, ltb, leb, length};
 ghost use Rattle.types.specs.Number.{part};
-ghost use Rattle.types.specs.Paper.{paperWritable};
+ghost use Rattle.types.specs.Paper.{paper_writable};
 ghost use Rattle.types.specs.Write.{put};
-ghost use Rattle.segment.specs.Header.{headerLength};
-ghost use Rattle.segment.specs.Segment.{segmentLength, segmentBytes};
-ghost use Rattle.segment.specs.Paper.{paperForm};
-ghost use Rattle.frame_encoder.specs.Writer.{done, fresh, fits, addCheck, add, finishCheck, finish, piece_of, pieceCheck, piece};
-ghost use Rattle.frame_encoder.specs.Paper.{paperWriter, paperEncoded, paperStep};
+ghost use Rattle.segment.specs.Header.{header_length};
+ghost use Rattle.segment.specs.Segment.{segment_length, segment_bytes};
+ghost use Rattle.segment.specs.Paper.{paper_form};
+ghost use Rattle.frame_encoder.specs.Writer.{done, fresh, fits, add_check, add, finish_check, finish, piece_of, piece_check, piece};
+ghost use Rattle.frame_encoder.specs.Paper.{paper_writer, paper_encoded, paper_step};
 
 use crc::crc32;
 use refusal::Refusal;
@@ -38,7 +38,7 @@ pub struct Step {
 // A segment with this payload, which is not longer than a segment's, has room in an output of len bytes.
 fn has_room(form: Form, len: usize, payload: usize) -> bool
     requires { payload ≤ 131071 }
-    ensures { result ≡ leb (segmentLength (paperForm form) payload) len }
+    ensures { result ≡ leb (segment_length (paper_form form) payload) len }
 {
     let size = segment::header_len(form) + payload + TRAILER_LEN;
     size <= len
@@ -46,8 +46,8 @@ fn has_room(form: Form, len: usize, payload: usize) -> bool
 
 // Header and trailer around a payload that stands in out, behind the room for the header.
 fn close(out: &mut [u8], form: Form, payload: usize, self_contained: bool)
-    requires { (payload ≤ 131071) × (segmentLength (paperForm form) payload ≤ length out.old) }
-    ensures { out.new ≡ put out.old 0 (segmentBytes (paperForm form) self_contained (part out.old (headerLength (paperForm form)) payload)) }
+    requires { (payload ≤ 131071) × (segment_length (paper_form form) payload ≤ length out.old) }
+    ensures { out.new ≡ put out.old 0 (segment_bytes (paper_form form) self_contained (part out.old (header_length (paper_form form)) payload)) }
 {
     let start = segment::header_len(form);
     let end = start + payload;
@@ -70,14 +70,14 @@ fn piece_of(n: usize) -> usize
 
 impl FrameEncoder {
     pub fn new(form: Form) -> FrameEncoder
-        ensures { paperWriter result ≡ fresh (paperForm form) }
+        ensures { paper_writer result ≡ fresh (paper_form form) }
     {
         FrameEncoder { form, payload: 0 }
     }
 
     // An envelope of this length fits behind the payload so far.
     pub fn can_fit(self, len: usize) -> bool
-        ensures { result ≡ fits (paperWriter self) len }
+        ensures { result ≡ fits (paper_writer self) len }
     {
         let payload = self.payload;
         if payload <= MAX_PAYLOAD {
@@ -95,7 +95,7 @@ impl FrameEncoder {
 
     // What was added is forgotten.
     pub fn reset(mut self) -> FrameEncoder
-        ensures { paperWriter result ≡ fresh (paperForm self.form) }
+        ensures { paper_writer result ≡ fresh (paper_form self.form) }
     {
         self.payload = 0;
         self
@@ -103,7 +103,7 @@ impl FrameEncoder {
 
     // 1, 16, 14.
     fn check_add(self, room: usize, n: usize) -> Writable
-        ensures { paperWritable result ≡ addCheck (paperWriter self) room n }
+        ensures { paper_writable result ≡ add_check (paper_writer self) room n }
     {
         let form = self.form;
         let payload = self.payload;
@@ -121,7 +121,7 @@ impl FrameEncoder {
 
     // 1, 14.
     fn check_finish(self, room: usize) -> Writable
-        ensures { paperWritable result ≡ finishCheck (paperWriter self) room }
+        ensures { paper_writable result ≡ finish_check (paper_writer self) room }
     {
         let form = self.form;
         let payload = self.payload;
@@ -136,7 +136,7 @@ impl FrameEncoder {
 
     // 1, 17, 14.
     fn check_piece(self, room: usize, n: usize) -> Writable
-        ensures { paperWritable result ≡ pieceCheck (paperWriter self) room n }
+        ensures { paper_writable result ≡ piece_check (paper_writer self) room n }
     {
         let form = self.form;
         let payload = self.payload;
@@ -154,7 +154,7 @@ impl FrameEncoder {
 
     // An envelope, any bytes, behind the payload so far.
     pub fn add_envelope(self, out: &mut [u8], envelope: &[u8]) -> Step
-        ensures { paperStep result out.new ≡ add (paperWriter self) out.old envelope.now }
+        ensures { paper_step result out.new ≡ add (paper_writer self) out.old envelope.now }
     {
         let form = self.form;
         let payload = self.payload;
@@ -179,7 +179,7 @@ impl FrameEncoder {
 
     // The segment of what was added.
     pub fn finalize_self_contained(self, out: &mut [u8]) -> Step
-        ensures { paperStep result out.new ≡ finish (paperWriter self) out.old }
+        ensures { paper_step result out.new ≡ finish (paper_writer self) out.old }
     {
         let form = self.form;
         let payload = self.payload;
@@ -200,7 +200,7 @@ impl FrameEncoder {
 
     // A segment of the front of an envelope that is sent in pieces.
     pub fn finalize_non_self_contained(self, out: &mut [u8], envelope: &[u8]) -> Step
-        ensures { paperStep result out.new ≡ piece (paperWriter self) out.old envelope.now }
+        ensures { paper_step result out.new ≡ piece (paper_writer self) out.old envelope.now }
     {
         let form = self.form;
         match self.check_piece(out.len(), envelope.len()) {
@@ -224,13 +224,13 @@ impl FrameEncoder {
     // The Rust's outer shape: the writer is lent, and the next one is stored in its place.
 
     pub fn reset_mut(&mut self)
-        ensures { paperWriter self.new ≡ fresh (paperForm self.old.form) }
+        ensures { paper_writer self.new ≡ fresh (paper_form self.old.form) }
     {
         *self = self.reset();
     }
 
     pub fn add_envelope_mut(&mut self, out: &mut [u8], envelope: &[u8]) -> Encoded
-        ensures { done (paperWriter self.new) (paperEncoded result) out.new ≡ add (paperWriter self.old) out.old envelope.now }
+        ensures { done (paper_writer self.new) (paper_encoded result) out.new ≡ add (paper_writer self.old) out.old envelope.now }
     {
         let t = self.add_envelope(out, envelope);
         *self = t.encoder;
@@ -238,7 +238,7 @@ impl FrameEncoder {
     }
 
     pub fn finalize_self_contained_mut(&mut self, out: &mut [u8]) -> Encoded
-        ensures { done (paperWriter self.new) (paperEncoded result) out.new ≡ finish (paperWriter self.old) out.old }
+        ensures { done (paper_writer self.new) (paper_encoded result) out.new ≡ finish (paper_writer self.old) out.old }
     {
         let t = self.finalize_self_contained(out);
         *self = t.encoder;
@@ -246,7 +246,7 @@ impl FrameEncoder {
     }
 
     pub fn finalize_non_self_contained_mut(&mut self, out: &mut [u8], envelope: &[u8]) -> Encoded
-        ensures { done (paperWriter self.new) (paperEncoded result) out.new ≡ piece (paperWriter self.old) out.old envelope.now }
+        ensures { done (paper_writer self.new) (paper_encoded result) out.new ≡ piece (paper_writer self.old) out.old envelope.now }
     {
         let t = self.finalize_non_self_contained(out, envelope);
         *self = t.encoder;

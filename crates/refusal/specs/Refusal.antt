@@ -7,81 +7,81 @@ use Rattle.refusal.specs.declared.Numbered.{Numbered}
 -- Definitions hand a refusal on as a value; only where it is shown does it become a number.
 pub data Refusal : Type 0 where
   inadmissible : Refusal
-  headerCheckDiffers : Refusal
-  payloadCompressed : Refusal
-  segmentTooLong : Refusal
-  payloadCheckDiffers : Refusal
-  unexpectedSelfContained : Refusal
-  reassemblyTooShort : Refusal
-  negativeLength : Refusal
-  unknownVersion : Refusal
-  unknownOpcode : Refusal
-  tracingIdCutShort : Refusal
-  pastEnd : Refusal
-  notUtf8 : Refusal
-  outputTooShort : Refusal
-  notWritable : Refusal
-  envelopeDoesNotFit : Refusal
-  segmentNotEmpty : Refusal
+  header_check_differs : Refusal
+  payload_compressed : Refusal
+  segment_too_long : Refusal
+  payload_check_differs : Refusal
+  unexpected_self_contained : Refusal
+  reassembly_too_short : Refusal
+  negative_length : Refusal
+  unknown_version : Refusal
+  unknown_opcode : Refusal
+  tracing_id_cut_short : Refusal
+  past_end : Refusal
+  not_utf8 : Refusal
+  output_too_short : Refusal
+  not_writable : Refusal
+  envelope_does_not_fit : Refusal
+  segment_not_empty : Refusal
 
-abbrev pub refusalNumber : Refusal → ℕ
-refusalNumber inadmissible = 1
-refusalNumber headerCheckDiffers = 2
-refusalNumber payloadCompressed = 3
-refusalNumber segmentTooLong = 4
-refusalNumber payloadCheckDiffers = 5
-refusalNumber unexpectedSelfContained = 6
-refusalNumber reassemblyTooShort = 7
-refusalNumber negativeLength = 8
-refusalNumber unknownVersion = 9
-refusalNumber unknownOpcode = 10
-refusalNumber tracingIdCutShort = 11
-refusalNumber pastEnd = 12
-refusalNumber notUtf8 = 13
-refusalNumber outputTooShort = 14
-refusalNumber notWritable = 15
-refusalNumber envelopeDoesNotFit = 16
-refusalNumber segmentNotEmpty = 17
+abbrev pub refusal_number : Refusal → ℕ
+refusal_number inadmissible = 1
+refusal_number header_check_differs = 2
+refusal_number payload_compressed = 3
+refusal_number segment_too_long = 4
+refusal_number payload_check_differs = 5
+refusal_number unexpected_self_contained = 6
+refusal_number reassembly_too_short = 7
+refusal_number negative_length = 8
+refusal_number unknown_version = 9
+refusal_number unknown_opcode = 10
+refusal_number tracing_id_cut_short = 11
+refusal_number past_end = 12
+refusal_number not_utf8 = 13
+refusal_number output_too_short = 14
+refusal_number not_writable = 15
+refusal_number envelope_does_not_fit = 16
+refusal_number segment_not_empty = 17
 
 -- ---- which refusal a number stands for, if any
 
 abbrev pub refusals : List Refusal
 refusals =
-    inadmissible ∷ headerCheckDiffers ∷ payloadCompressed ∷ segmentTooLong ∷ payloadCheckDiffers ∷ unexpectedSelfContained
-    ∷ reassemblyTooShort ∷ negativeLength ∷ unknownVersion ∷ unknownOpcode ∷ tracingIdCutShort ∷ pastEnd
-    ∷ notUtf8 ∷ outputTooShort ∷ notWritable ∷ envelopeDoesNotFit ∷ segmentNotEmpty ∷ []
+    inadmissible ∷ header_check_differs ∷ payload_compressed ∷ segment_too_long ∷ payload_check_differs ∷ unexpected_self_contained
+    ∷ reassembly_too_short ∷ negative_length ∷ unknown_version ∷ unknown_opcode ∷ tracing_id_cut_short ∷ past_end
+    ∷ not_utf8 ∷ output_too_short ∷ not_writable ∷ envelope_does_not_fit ∷ segment_not_empty ∷ []
 
-abbrev pub amongOf : ℕ → List Refusal → Option Refusal
-amongOf n [] = none
-amongOf n (e ∷ es) = cond (eqb n (refusalNumber e)) (some e) (amongOf n es)
+abbrev pub among_of : ℕ → List Refusal → Option Refusal
+among_of n [] = none
+among_of n (e ∷ es) = cond (eqb n (refusal_number e)) (some e) (among_of n es)
 
-unfoldable pub refusalOf : ℕ → Option Refusal
-refusalOf n = amongOf n refusals
+unfoldable pub refusal_of : ℕ → Option Refusal
+refusal_of n = among_of n refusals
 
 -- ---- what the values of the code mean
 
-abbrev pub paperRefusal : code.Refusal → Refusal
-paperRefusal code.Refusal.Inadmissible = inadmissible
-paperRefusal code.Refusal.HeaderCheckDiffers = headerCheckDiffers
-paperRefusal code.Refusal.PayloadCompressed = payloadCompressed
-paperRefusal code.Refusal.SegmentTooLong = segmentTooLong
-paperRefusal code.Refusal.PayloadCheckDiffers = payloadCheckDiffers
-paperRefusal code.Refusal.UnexpectedSelfContained = unexpectedSelfContained
-paperRefusal code.Refusal.ReassemblyTooShort = reassemblyTooShort
-paperRefusal code.Refusal.NegativeLength = negativeLength
-paperRefusal code.Refusal.UnknownVersion = unknownVersion
-paperRefusal code.Refusal.UnknownOpcode = unknownOpcode
-paperRefusal code.Refusal.TracingIdCutShort = tracingIdCutShort
-paperRefusal code.Refusal.PastEnd = pastEnd
-paperRefusal code.Refusal.NotUtf8 = notUtf8
-paperRefusal code.Refusal.OutputTooShort = outputTooShort
-paperRefusal code.Refusal.NotWritable = notWritable
-paperRefusal code.Refusal.EnvelopeDoesNotFit = envelopeDoesNotFit
-paperRefusal code.Refusal.SegmentNotEmpty = segmentNotEmpty
+abbrev pub paper_refusal : code.Refusal → Refusal
+paper_refusal code.Refusal.Inadmissible = inadmissible
+paper_refusal code.Refusal.HeaderCheckDiffers = header_check_differs
+paper_refusal code.Refusal.PayloadCompressed = payload_compressed
+paper_refusal code.Refusal.SegmentTooLong = segment_too_long
+paper_refusal code.Refusal.PayloadCheckDiffers = payload_check_differs
+paper_refusal code.Refusal.UnexpectedSelfContained = unexpected_self_contained
+paper_refusal code.Refusal.ReassemblyTooShort = reassembly_too_short
+paper_refusal code.Refusal.NegativeLength = negative_length
+paper_refusal code.Refusal.UnknownVersion = unknown_version
+paper_refusal code.Refusal.UnknownOpcode = unknown_opcode
+paper_refusal code.Refusal.TracingIdCutShort = tracing_id_cut_short
+paper_refusal code.Refusal.PastEnd = past_end
+paper_refusal code.Refusal.NotUtf8 = not_utf8
+paper_refusal code.Refusal.OutputTooShort = output_too_short
+paper_refusal code.Refusal.NotWritable = not_writable
+paper_refusal code.Refusal.EnvelopeDoesNotFit = envelope_does_not_fit
+paper_refusal code.Refusal.SegmentNotEmpty = segment_not_empty
 
 abbrev pub number_of : code.Refusal → ℕ
-number_of e = refusalNumber (paperRefusal e)
+number_of e = refusal_number (paper_refusal e)
 
-abbrev pub paperNumbered : Numbered → Option Refusal
-paperNumbered (Numbered.Stands e) = some (paperRefusal e)
-paperNumbered Numbered.Nothing = none
+abbrev pub paper_numbered : Numbered → Option Refusal
+paper_numbered (Numbered.Stands e) = some (paper_refusal e)
+paper_numbered Numbered.Nothing = none

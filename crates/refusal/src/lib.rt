@@ -1,6 +1,6 @@
 // Why a call was refused: a case for each number of docs/RULES.md, section 9.
 ghost use Rattle.std.specs.Prelude.{◌≡◌};
-ghost use Rattle.refusal.specs.Refusal.{number_of, refusalOf, paperNumbered};
+ghost use Rattle.refusal.specs.Refusal.{number_of, refusal_of, paper_numbered};
 
 #[derive(Drop)]
 pub enum Refusal {
@@ -76,7 +76,7 @@ pub enum Numbered {
 
 // The way back from a number.
 pub fn of_number(n: usize) -> Numbered
-    ensures { paperNumbered result ≡ refusalOf n }
+    ensures { paper_numbered result ≡ refusal_of n }
 {
     match n {
         1 => Numbered::Stands(Refusal::Inadmissible),

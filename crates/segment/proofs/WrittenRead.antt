@@ -8,98 +8,98 @@ use native.Mathlib.Omega.{arith}
 use borrow.Author.Tests.{eq-eqb}
 use lib.Dec.{eqb}
 use lib.ListN.{length, take}
-use Rattle.basis.specs.Front.{Front, whole, ifWhole}
+use Rattle.basis.specs.Front.{Front, whole, if_whole}
 use Rattle.crc.specs.Check24.{crc24}
 use Rattle.crc.specs.Check32.{crc32}
-use Rattle.crc.proofs.Check24.{crc24-below}
-use Rattle.crc.proofs.Check32.{crc32-below}
+use Rattle.crc.proofs.Check24.{crc24_below}
+use Rattle.crc.proofs.Check32.{crc32_below}
 use Rattle.basis.specs.Bytes.{Bytes}
 use Rattle.refusal.specs.Refusal.{Refusal}
 use Rattle.types.specs.Number.{part}
 use Rattle.types.specs.ThereAndBack.{Holds}
-use Rattle.types.proofs.Holds.{holds-left, holds-right}
-use Rattle.segment.specs.LittleEndian.{le, leDigits}
-use Rattle.segment.specs.Header.{Form, Header, header, numberLength, checkLength, headerLength, fields_of, headerNumber, numberBytes, headerBytes}
-use Rattle.segment.specs.Segment.{trailerLength, maxPayload, trailerBytes, segmentBytes, checked, header_at, segment, payloadAt, segmentAt}
-use Rattle.segment.proofs.LittleEndian.{length-le, bytes_le, le-digits-fit}
+use Rattle.types.proofs.Holds.{holds_left, holds_right}
+use Rattle.segment.specs.LittleEndian.{le, le_digits}
+use Rattle.segment.specs.Header.{Form, Header, header, number_length, check_length, header_length, fields_of, header_number, number_bytes, header_bytes}
+use Rattle.segment.specs.Segment.{trailer_length, max_payload, trailer_bytes, segment_bytes, checked, header_at, segment, payload_at, segment_at}
+use Rattle.segment.proofs.LittleEndian.{length_le, bytes_le, le_digits_fit}
 use Rattle.segment.specs.ThereAndBack.{Fits}
-use Rattle.segment.proofs.HeaderBits.{number-below, used-within, fields_back}
-use Rattle.segment.proofs.HeaderLaid.{number-length, header-length}
-use Rattle.segment.proofs.Cases.{fields_at, head-good, header_is, payload-good, payload-is}
+use Rattle.segment.proofs.HeaderBits.{number_below, used_within, fields_back}
+use Rattle.segment.proofs.HeaderLaid.{number_length_lem, header_length_lem}
+use Rattle.segment.proofs.Cases.{fields_at, head_good, header_is, payload_good, payload_is}
 
 -- ---- the header
 
-module _ (f : Form) (h : Header) (s : List ℕ) (there : Holds s 0 (headerBytes f h)) where
-  number-there : take (numberLength f) s ≡ numberBytes f h
-  unfolding headerBytes
-  number-there =
-      ap (λ (k : ℕ). take k s) (sym (number-length f h)) ∙ (holds-left s 0 (numberBytes f h) (leDigits checkLength (crc24 (numberBytes f h))) there).is
+module _ (f : Form) (h : Header) (s : List ℕ) (there : Holds s 0 (header_bytes f h)) where
+  number_there : take (number_length f) s ≡ number_bytes f h
+  unfolding header_bytes
+  number_there =
+      ap (λ (k : ℕ). take k s) (sym (number_length_lem f h)) ∙ (holds_left s 0 (number_bytes f h) (le_digits check_length (crc24 (number_bytes f h))) there).is
 
-  check-there : part s (numberLength f) checkLength ≡ leDigits checkLength (crc24 (numberBytes f h))
-  unfolding headerBytes
-  check-there =
-      ap₂ (λ (i k : ℕ). part s i k) (sym (zero-add (length (numberBytes f h)) ∙ number-length f h)) (sym (length-le checkLength (crc24 (numberBytes f h))))
-      ∙ (holds-right s 0 (numberBytes f h) (leDigits checkLength (crc24 (numberBytes f h))) there).is
+  check_there : part s (number_length f) check_length ≡ le_digits check_length (crc24 (number_bytes f h))
+  unfolding header_bytes
+  check_there =
+      ap₂ (λ (i k : ℕ). part s i k) (sym (zero-add (length (number_bytes f h)) ∙ number_length_lem f h)) (sym (length_le check_length (crc24 (number_bytes f h))))
+      ∙ (holds_right s 0 (number_bytes f h) (le_digits check_length (crc24 (number_bytes f h))) there).is
 
-  number-bytes : Bytes (numberBytes f h)
-  unfolding numberBytes
-  number-bytes = bytes_le (numberLength f) (headerNumber f h)
+  number_bytes_lem : Bytes (number_bytes f h)
+  unfolding number_bytes
+  number_bytes_lem = bytes_le (number_length f) (header_number f h)
 
-  check-holds : checked f s ≡ true
-  check-holds =
-      eq-eqb (le (part s (numberLength f) checkLength)) (crc24 (take (numberLength f) s))
-      (ap le check-there ∙ le-digits-fit checkLength (crc24 (numberBytes f h)) (crc24-below (numberBytes f h) number-bytes) ∙ ap crc24 (sym number-there))
+  check_holds : checked f s ≡ true
+  check_holds =
+      eq-eqb (le (part s (number_length f) check_length)) (crc24 (take (number_length f) s))
+      (ap le check_there ∙ le_digits_fit check_length (crc24 (number_bytes f h)) (crc24_below (number_bytes f h) number_bytes_lem) ∙ ap crc24 (sym number_there))
 
-  fields-there : Fits f h → fields_at f s ≡ h
-  unfolding numberBytes
-  fields-there fit =
-      ap (λ (l : List ℕ). fields_of f (le l)) number-there
-      ∙ ap (fields_of f) (le-digits-fit (numberLength f) (headerNumber f h) (lt_of_lt_of_le (number-below f h) (used-within f)))
+  fields_there : Fits f h → fields_at f s ≡ h
+  unfolding number_bytes
+  fields_there fit =
+      ap (λ (l : List ℕ). fields_of f (le l)) number_there
+      ∙ ap (fields_of f) (le_digits_fit (number_length f) (header_number f h) (lt_of_lt_of_le (number_below f h) (used_within f)))
       ∙ fields_back f h fit
 
-  pub header-back : Fits f h → h.uncompressed ≡ 0 → header_at f s ≡ whole h
-  header-back fit none =
-      let e : fields_at f s ≡ h = fields-there fit in
-      let l : length (headerBytes f h) ≡ headerLength f = header-length f h in
-      let room : 0 + length (headerBytes f h) ≤ length s = there.room in
-      header_is f s (head-good (omega (arith, zero-add (length (headerBytes f h)))) check-holds (ap (λ (x : Header). eqb x.uncompressed 0) e ∙ eq-eqb h.uncompressed 0 none))
+  pub header_back : Fits f h → h.uncompressed ≡ 0 → header_at f s ≡ whole h
+  header_back fit none =
+      let e : fields_at f s ≡ h = fields_there fit in
+      let l : length (header_bytes f h) ≡ header_length f = header_length_lem f h in
+      let room : 0 + length (header_bytes f h) ≤ length s = there.room in
+      header_is f s (head_good (omega (arith, zero-add (length (header_bytes f h)))) check_holds (ap (λ (x : Header). eqb x.uncompressed 0) e ∙ eq-eqb h.uncompressed 0 none))
       ∙ ap whole e
 
 -- ---- the segment
 
-module _ (f : Form) (self : Bool) (payload : List ℕ) (small : length payload ≤ maxPayload) (s : List ℕ) (there : Holds s 0 (segmentBytes f self payload)) where
+module _ (f : Form) (self : Bool) (payload : List ℕ) (small : length payload ≤ max_payload) (s : List ℕ) (there : Holds s 0 (segment_bytes f self payload)) where
   abbrev h : Header
   h = header (length payload) 0 self
 
-  rest-there : Holds s (headerLength f) (payload ++ trailerBytes payload)
-  unfolding segmentBytes
-  rest-there =
-      subst (λ (k : ℕ). Holds s k (payload ++ trailerBytes payload)) (zero-add (length (headerBytes f h)) ∙ header-length f h)
-      (holds-right s 0 (headerBytes f h) (payload ++ trailerBytes payload) there)
+  rest_there : Holds s (header_length f) (payload ++ trailer_bytes payload)
+  unfolding segment_bytes
+  rest_there =
+      subst (λ (k : ℕ). Holds s k (payload ++ trailer_bytes payload)) (zero-add (length (header_bytes f h)) ∙ header_length_lem f h)
+      (holds_right s 0 (header_bytes f h) (payload ++ trailer_bytes payload) there)
 
-  header-there : header_at f s ≡ whole h
-  unfolding segmentBytes
-  header-there =
-      header-back f h s (holds-left s 0 (headerBytes f h) (payload ++ trailerBytes payload) there)
+  header_there : header_at f s ≡ whole h
+  unfolding segment_bytes
+  header_there =
+      header_back f h s (holds_left s 0 (header_bytes f h) (payload ++ trailer_bytes payload) there)
       (record { payload = omega arith; uncompressed = omega arith; none = λ e. refl }) refl
 
-  payload-there : part s (headerLength f) (length payload) ≡ payload
-  payload-there = (holds-left s (headerLength f) payload (trailerBytes payload) rest-there).is
+  payload_there : part s (header_length f) (length payload) ≡ payload
+  payload_there = (holds_left s (header_length f) payload (trailer_bytes payload) rest_there).is
 
-  trailer-there : part s (headerLength f + length payload) trailerLength ≡ trailerBytes payload
-  trailer-there =
-      let r = holds-right s (headerLength f) payload (trailerBytes payload) rest-there in
-      ap (λ (k : ℕ). part s (headerLength f + length payload) k) (sym (length-le trailerLength (crc32 payload))) ∙ r.is
+  trailer_there : part s (header_length f + length payload) trailer_length ≡ trailer_bytes payload
+  trailer_there =
+      let r = holds_right s (header_length f) payload (trailer_bytes payload) rest_there in
+      ap (λ (k : ℕ). part s (header_length f + length payload) k) (sym (length_le trailer_length (crc32 payload))) ∙ r.is
 
-  pub segment-back : segmentAt f s ≡ whole (segment self payload)
-  unfolding segmentAt
-  segment-back =
-      let r = holds-right s (headerLength f) payload (trailerBytes payload) rest-there in
-      let l : length (trailerBytes payload) ≡ trailerLength = length-le trailerLength (crc32 payload) in
-      let room : headerLength f + length payload + length (trailerBytes payload) ≤ length s = r.room in
-      ap (λ (x : Front Refusal Header). ifWhole x (payloadAt f s)) header-there
-      ∙ payload-is f s h
-      (payload-good (omega arith)
-      (eq-eqb (le (part s (headerLength f + length payload) trailerLength)) (crc32 (part s (headerLength f) (length payload)))
-      (ap le trailer-there ∙ le-digits-fit trailerLength (crc32 payload) (crc32-below payload) ∙ ap crc32 (sym payload-there))))
-      ∙ ap (λ (l : List ℕ). whole (segment self l)) payload-there
+  pub segment_back : segment_at f s ≡ whole (segment self payload)
+  unfolding segment_at
+  segment_back =
+      let r = holds_right s (header_length f) payload (trailer_bytes payload) rest_there in
+      let l : length (trailer_bytes payload) ≡ trailer_length = length_le trailer_length (crc32 payload) in
+      let room : header_length f + length payload + length (trailer_bytes payload) ≤ length s = r.room in
+      ap (λ (x : Front Refusal Header). if_whole x (payload_at f s)) header_there
+      ∙ payload_is f s h
+      (payload_good (omega arith)
+      (eq-eqb (le (part s (header_length f + length payload) trailer_length)) (crc32 (part s (header_length f) (length payload)))
+      (ap le trailer_there ∙ le_digits_fit trailer_length (crc32 payload) (crc32_below payload) ∙ ap crc32 (sym payload_there))))
+      ∙ ap (λ (l : List ℕ). whole (segment self l)) payload_there

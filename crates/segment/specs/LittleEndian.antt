@@ -7,6 +7,6 @@ le [] = 0
 le (b ∷ s) = le s * 256 + b
 
 -- the lowest n bytes of x, the one of least weight first
-unfoldable pub leDigits : ℕ → ℕ → List ℕ
-leDigits zero x = []
-leDigits (suc n) x = x % 256 ∷ leDigits n (x / 256)
+unfoldable pub le_digits : ℕ → ℕ → List ℕ
+le_digits zero x = []
+le_digits (suc n) x = x % 256 ∷ le_digits n (x / 256)

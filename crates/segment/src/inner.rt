@@ -2,9 +2,9 @@
 ghost use Rattle.std.specs.Prelude.{◌≡◌, ◌+◌, ◌≤◌, ◌<◌, ◌^◌, length};
 ghost use Rattle.types.specs.Number.{part};
 ghost use Rattle.types.specs.Write.{put};
-ghost use Rattle.segment.specs.LittleEndian.{le, leDigits};
-ghost use Rattle.segment.specs.Header.{headerLength, headerBytes};
-ghost use Rattle.segment.specs.Paper.{paperForm, paperHeader};
+ghost use Rattle.segment.specs.LittleEndian.{le, le_digits};
+ghost use Rattle.segment.specs.Header.{header_length, header_bytes};
+ghost use Rattle.segment.specs.Paper.{paper_form, paper_header};
 
 use crate::{CHECK_LEN, Form, Header};
 use crc::crc24;
@@ -27,7 +27,7 @@ pub fn read_number(bytes: &[u8], at: usize, n: usize) -> u64
 // The n lowest bytes of x, from at on.
 pub fn put_number(out: &mut [u8], at: usize, n: usize, x: u64)
     requires { at + n ≤ length out.old }
-    ensures { out.new ≡ put out.old at (leDigits n x) }
+    ensures { out.new ≡ put out.old at (le_digits n x) }
 {
     let mut i: usize = 0;
     let mut rest = x;
@@ -40,8 +40,8 @@ pub fn put_number(out: &mut [u8], at: usize, n: usize, x: u64)
 
 // A header at the front of out.
 pub fn put_header(out: &mut [u8], form: Form, header: Header)
-    requires { headerLength (paperForm form) ≤ length out.old }
-    ensures { out.new ≡ put out.old 0 (headerBytes (paperForm form) (paperHeader header)) }
+    requires { header_length (paper_form form) ≤ length out.old }
+    ensures { out.new ≡ put out.old 0 (header_bytes (paper_form form) (paper_header header)) }
 {
     let n = crate::number_len(form);
     let x = crate::header_number(form, header);

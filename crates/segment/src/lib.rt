@@ -1,8 +1,8 @@
 // A segment's header in its two forms (the v5 document, Framing), fields and bytes, and the payload behind it.
 ghost use Rattle.std.specs.Prelude.{◌≡◌, cond, ◌≤◌, length};
-ghost use Rattle.segment.specs.Header.{numberLength, headerLength, selfWeight, uncompressedOf, uncompressedPart, fields_of, headerNumber};
-ghost use Rattle.segment.specs.Segment.{checked, header_at, behind, payloadAt};
-ghost use Rattle.segment.specs.Paper.{paperForm, paperHeader, paperReadHeader, paperReadPayload};
+ghost use Rattle.segment.specs.Header.{number_length, header_length, self_weight, uncompressed_of, uncompressed_part, fields_of, header_number};
+ghost use Rattle.segment.specs.Segment.{checked, header_at, behind, payload_at};
+ghost use Rattle.segment.specs.Paper.{paper_form, paper_header, paper_read_header, paper_read_payload};
 
 use crc::{crc24, crc32};
 use refusal::Refusal;
@@ -51,7 +51,7 @@ pub enum ReadPayload {
 
 // How many bytes of a header are its number; the others are the check of these.
 pub fn number_len(form: Form) -> usize
-    ensures { result ≡ numberLength (paperForm form) }
+    ensures { result ≡ number_length (paper_form form) }
 {
     match form {
         Form::Short => 3,
@@ -60,7 +60,7 @@ pub fn number_len(form: Form) -> usize
 }
 
 pub fn header_len(form: Form) -> usize
-    ensures { result ≡ headerLength (paperForm form) }
+    ensures { result ≡ header_length (paper_form form) }
 {
     match form {
         Form::Short => 6,
@@ -70,7 +70,7 @@ pub fn header_len(form: Form) -> usize
 
 // The weight of the bit that says self-contained.
 fn self_weight(form: Form) -> u64
-    ensures { result ≡ selfWeight (paperForm form) }
+    ensures { result ≡ self_weight (paper_form form) }
 {
     match form {
         Form::Short => 0x2_0000,
@@ -80,7 +80,7 @@ fn self_weight(form: Form) -> u64
 
 // The fields of a header's number; bits that are unused are ignored.
 pub fn fields(form: Form, x: u64) -> Header
-    ensures { paperHeader result ≡ fields_of (paperForm form) x }
+    ensures { paper_header result ≡ fields_of (paper_form form) x }
 {
     let payload = (x % LENGTHS) as u32;
     let weight = self_weight(form);
@@ -94,7 +94,7 @@ pub fn fields(form: Form, x: u64) -> Header
 }
 
 fn uncompressed_of(form: Form, x: u64) -> u32
-    ensures { result ≡ uncompressedOf (paperForm form) x }
+    ensures { result ≡ uncompressed_of (paper_form form) x }
 {
     match form {
         Form::Short => 0,
@@ -103,7 +103,7 @@ fn uncompressed_of(form: Form, x: u64) -> u32
 }
 
 fn uncompressed_part(form: Form, n: u32) -> u64
-    ensures { result ≡ uncompressedPart (paperForm form) n }
+    ensures { result ≡ uncompressed_part (paper_form form) n }
 {
     match form {
         Form::Short => 0,
@@ -112,14 +112,14 @@ fn uncompressed_part(form: Form, n: u32) -> u64
 }
 
 fn self_part(form: Form, self_contained: bool) -> u64
-    ensures { result ≡ cond self_contained (selfWeight (paperForm form)) 0 }
+    ensures { result ≡ cond self_contained (self_weight (paper_form form)) 0 }
 {
     if self_contained { self_weight(form) } else { 0 }
 }
 
 // The number of a header with these fields; unused bits are 0, and of a length the lowest 17 bits count.
 pub fn header_number(form: Form, header: Header) -> u64
-    ensures { result ≡ headerNumber (paperForm form) (paperHeader header) }
+    ensures { result ≡ header_number (paper_form form) (paper_header header) }
 {
     let payload = header.payload as u64 % LENGTHS;
     let uncompressed = uncompressed_part(form, header.uncompressed);
@@ -129,8 +129,8 @@ pub fn header_number(form: Form, header: Header) -> u64
 
 // The check behind a header's number is that of its bytes.
 fn check_holds(form: Form, bytes: &[u8]) -> bool
-    requires { headerLength (paperForm form) ≤ length bytes.now }
-    ensures { result ≡ checked (paperForm form) bytes.now }
+    requires { header_length (paper_form form) ≤ length bytes.now }
+    ensures { result ≡ checked (paper_form form) bytes.now }
 {
     let n = number_len(form);
     let read = inner::read_number(bytes, n, CHECK_LEN);
@@ -140,7 +140,7 @@ fn check_holds(form: Form, bytes: &[u8]) -> bool
 
 // The header at the front of the bytes, judged: 2, then 3.
 pub fn read_header(form: Form, bytes: &[u8]) -> ReadHeader
-    ensures { paperReadHeader result ≡ header_at (paperForm form) bytes.now }
+    ensures { paper_read_header result ≡ header_at (paper_form form) bytes.now }
 {
     if bytes.len() < header_len(form) {
         return ReadHeader::Incomplete;
@@ -158,7 +158,7 @@ pub fn read_header(form: Form, bytes: &[u8]) -> ReadHeader
 
 // The payload behind a header that has passed, judged: 5.
 pub fn read_payload(form: Form, bytes: &[u8], header: Header) -> ReadPayload
-    ensures { paperReadPayload result (behind (paperForm form) bytes.now (paperHeader header)) ≡ payloadAt (paperForm form) bytes.now (paperHeader header) }
+    ensures { paper_read_payload result (behind (paper_form form) bytes.now (paper_header header)) ≡ payload_at (paper_form form) bytes.now (paper_header header) }
 {
     let start = header_len(form);
     let end = start + header.payload as usize;

@@ -8,13 +8,13 @@ use lib.ListN.{length, set}
 use Rattle.types.specs.Write.{put}
 use Rattle.stream.specs.Collect.{Tape, tape, noted}
 
-abbrev pub by-room : List ℕ → ℕ → Tape → Bool → Tape
-by-room bytes mark t b =
+abbrev pub by_room : List ℕ → ℕ → Tape → Bool → Tape
+by_room bytes mark t b =
     cond b (tape (t.answers + 1) (t.bytes + length bytes) true (put t.envelopes t.bytes bytes) (set t.marks t.answers mark))
     (tape t.answers t.bytes false t.envelopes t.marks)
 
 -- by the three tests that are made
-pub noted-by : (bytes : List ℕ) (mark : ℕ) (t : Tape) {x y z : Bool} → t.complete ≡ x → ltb t.answers (length t.marks) ≡ y → leb (t.bytes + length bytes) (length t.envelopes) ≡ z
-    → by-room bytes mark t (x && (y && z)) ≡ noted bytes mark t
+pub noted_by : (bytes : List ℕ) (mark : ℕ) (t : Tape) {x y z : Bool} → t.complete ≡ x → ltb t.answers (length t.marks) ≡ y → leb (t.bytes + length bytes) (length t.envelopes) ≡ z
+    → by_room bytes mark t (x && (y && z)) ≡ noted bytes mark t
 unfolding noted
-noted-by bytes mark t p q r = sym (ap₂ (λ (a b : Bool). by-room bytes mark t (a && b)) p (ap₂ (λ (a b : Bool). a && b) q r))
+noted_by bytes mark t p q r = sym (ap₂ (λ (a b : Bool). by_room bytes mark t (a && b)) p (ap₂ (λ (a b : Bool). a && b) q r))

@@ -6,45 +6,45 @@ use mathlib.Core.List.{List, [], ◌∷◌, ◌++◌, append_assoc, append-nil}
 use native.Mathlib.Omega.{arith}
 use lib.ListN.{length, take, drop, length-drop, take-append-drop}
 use lib.Seq.{drop-drop, drop-length, length-take-le}
-use Rattle.basis.specs.Machine.{Dated, dated, refusedAfter, holding, saying, Close, usedUp, refusedWith, Uses, by-more, by-refusal, after_one}
-use Rattle.basis.proofs.Machine.{Hands, Kept, kept_by, Told, told, one_then, refused-longer}
+use Rattle.basis.specs.Machine.{Dated, dated, refused_after, holding, saying, Close, used_up, refused_with, Uses, by_more, by_refusal, after_one}
+use Rattle.basis.proofs.Machine.{Hands, Kept, kept_by, Told, told, one_then, refused_longer}
 use Rattle.refusal.specs.Refusal.{Refusal, inadmissible}
 use Rattle.types.specs.Number.{part}
 use Rattle.types.specs.Read.{Place}
 use Rattle.types.proofs.BigEndian.{length_part}
 use Rattle.segment.specs.Header.{Form}
 use Rattle.frame.specs.Envelope.{Envelope}
-use Rattle.frame_decoder.specs.Reader.{Phase, inHeader, inRest, inSegment, inReassembly, stopped, Reader, fresh, Buffer, bytes_at, Answer, envelopeAt, leftover, more, refused, countsIn, countsOf, in_range, maxReassembly}
+use Rattle.frame_decoder.specs.Reader.{Phase, in_header, in_rest, in_segment, in_reassembly, stopped, Reader, fresh, Buffer, bytes_at, Answer, envelope_at, leftover, more, refused, counts_in, counts_of, in_range, max_reassembly}
 use Rattle.frame_decoder.specs.Call.{Outcome, outcome, call}
 use Rattle.frame_decoder.specs.Private.Inside.{wanted, Roomy}
 use Rattle.frame_decoder.proofs.Steps.{roomy}
-use Rattle.stream.specs.Meaning.{Said, envelopeOf, leftoverOf, held, Meaning}
-use Rattle.stream.specs.Caller.{State, state, step_of, reads, holds, start, heardOf}
-use Rattle.stream.specs.Collect.{bytes_of, mark_of, Tape, blank, noted, collected, Ending, refusedEnd, heldEnd, end_of, HeardAs}
-use Rattle.stream.specs.Private.Inside.{Way, Going, notedAll, Onward, endingOf, Over, ahead}
+use Rattle.stream.specs.Meaning.{Said, envelope_of, leftover_of, held, Meaning}
+use Rattle.stream.specs.Caller.{State, state, step_of, reads, holds, start, heard_of}
+use Rattle.stream.specs.Collect.{bytes_of, mark_of, Tape, blank, noted, collected, Ending, refused_end, held_end, end_of, HeardAs}
+use Rattle.stream.specs.Private.Inside.{Way, Going, noted_all, Onward, ending_of, Over, ahead}
 use Rattle.stream.specs.Private.Turn.{way_of, AllHeard, PieceUsed, Answered, TurnIs, UsedIs}
 use Rattle.stream.specs.declared.Collected.{Collected}
 use Rattle.stream.specs.declared.Progress.{Progress}
 use Rattle.stream.specs.declared.Turn.{Turn}
 use Rattle.stream.specs.declared.Used.{Used}
 use Rattle.stream.proofs.Calls.{Called, called}
-use Rattle.stream.proofs.Longer.{call-waiting}
-use Rattle.stream.proofs.Pieces.{reader, lawful, fresh-ready, fresh-rest, heard-none, out_of_range}
+use Rattle.stream.proofs.Longer.{call_waiting}
+use Rattle.stream.proofs.Pieces.{reader, lawful, fresh_ready, fresh_rest, heard_none, out_of_range}
 
 -- ---- ways on
 
-noted-both : (xs ys : List (Dated Said)) (t : Tape) → notedAll (xs ++ ys) t ≡ notedAll ys (notedAll xs t)
-noted-both [] ys t = refl
-noted-both (x ∷ xs) ys t = noted-both xs ys (noted (bytes_of x.what) (mark_of x.what) t)
+noted_both : (xs ys : List (Dated Said)) (t : Tape) → noted_all (xs ++ ys) t ≡ noted_all ys (noted_all xs t)
+noted_both [] ys t = refl
+noted_both (x ∷ xs) ys t = noted_both xs ys (noted (bytes_of x.what) (mark_of x.what) t)
 
-onward-same : (stream : List ℕ) (w : Way) → Onward stream w w
-onward-same stream w = record { handed = []; notes = refl; gives = λ xs c end t u. u }
+onward_same : (stream : List ℕ) (w : Way) → Onward stream w w
+onward_same stream w = record { handed = []; notes = refl; gives = λ xs c end t u. u }
 
 pub onward_then : {stream : List ℕ} {w v u : Way} → Onward stream w v → Onward stream v u → Onward stream w u
 onward_then {stream} {w} {v} {u} p q =
     record {
       handed = p.handed ++ q.handed;
-      notes = q.notes ∙ ap (notedAll q.handed) p.notes ∙ sym (noted-both p.handed q.handed w.tape);
+      notes = q.notes ∙ ap (noted_all q.handed) p.notes ∙ sym (noted_both p.handed q.handed w.tape);
       gives =
           λ xs c end t g. subst (λ (l : List (Dated Said)). Uses reads w.at w.taken (drop w.taken stream) l c end t) (sym (append_assoc p.handed q.handed xs))
           (p.gives (q.handed ++ xs) c end t (q.gives xs c end t g));
@@ -55,9 +55,9 @@ abbrev pub SameLengths : List ℕ → List ℕ → List ℕ → List ℕ → Lis
 SameLengths s r e m s' r' e' m' = (length s' ≡ length s) × (length r' ≡ length r) × (length e' ≡ length e) × (length m' ≡ length m)
 
 -- a call keeps them behind what was kept before; its list of what it keeps has the stream between the buffers and the outputs
-pub lengths-then : {a b c d a' b' c' d' a'' b'' c'' d'' : ℕ} {X Y : Type 0} → (a'' ≡ a') × ((b'' ≡ b') × (X × ((c'' ≡ c') × ((d'' ≡ d') × Y)))) → (a' ≡ a) × (b' ≡ b) × (c' ≡ c) × (d' ≡ d)
+pub lengths_then : {a b c d a' b' c' d' a'' b'' c'' d'' : ℕ} {X Y : Type 0} → (a'' ≡ a') × ((b'' ≡ b') × (X × ((c'' ≡ c') × ((d'' ≡ d') × Y)))) → (a' ≡ a) × (b' ≡ b) × (c' ≡ c) × (d' ≡ d)
     → (a'' ≡ a) × (b'' ≡ b) × (c'' ≡ c) × (d'' ≡ d)
-lengths-then k l = (k.0 ∙ l.0, k.1.0 ∙ l.1, k.1.1.1.0 ∙ l.2, k.1.1.1.1.0 ∙ l.3)
+lengths_then k l = (k.0 ∙ l.0, k.1.0 ∙ l.1, k.1.1.1.0 ∙ l.2, k.1.1.1.1.0 ∙ l.3)
 
 -- what each loop keeps: from where it set out to where it is
 pub record Underway (stream : List ℕ) (w v : Way) : Type 0 where
@@ -65,18 +65,18 @@ pub record Underway (stream : List ℕ) (w v : Way) : Type 0 where
   pub going : Going stream v
   pub onward : Onward stream w v
 
-pub underway-first : {stream : List ℕ} {w : Way} → Going stream w → Underway stream w w
-underway-first g = record { lengths = (refl, refl, refl, refl); going = g; onward = onward-same _ _ }
+pub underway_first : {stream : List ℕ} {w : Way} → Going stream w → Underway stream w w
+underway_first g = record { lengths = (refl, refl, refl, refl); going = g; onward = onward_same _ _ }
 
-pub onward-over : {stream : List ℕ} {w v : Way} {t : Tape} {e : Ending} {S R : List ℕ} → Onward stream w v → Over stream v t e S R → Over stream w t e S R
-onward-over {w = w} {S = S} {R = R} p q =
+pub onward_over : {stream : List ℕ} {w v : Way} {t : Tape} {e : Ending} {S R : List ℕ} → Onward stream w v → Over stream v t e S R → Over stream w t e S R
+onward_over {w = w} {S = S} {R = R} p q =
     record {
       handed = p.handed ++ q.handed;
       close = q.close;
       taken = q.taken;
       reader = q.reader;
       gives = p.gives q.handed q.close q.taken (state q.reader S R) q.gives;
-      notes = q.notes ∙ ap (notedAll q.handed) p.notes ∙ sym (noted-both p.handed q.handed w.tape);
+      notes = q.notes ∙ ap (noted_all q.handed) p.notes ∙ sym (noted_both p.handed q.handed w.tape);
       ends = q.ends;
     }
 
@@ -86,25 +86,25 @@ onward-over {w = w} {S = S} {R = R} p q =
 nearer : (before after : ℕ) {whole rest : ℕ} (taken n end : ℕ) → after + rest < before + whole → rest ≡ whole - n → whole ≡ end - taken → taken + n ≤ end → after + (end - (taken + n)) < before + (end - taken)
 nearer before after taken n end less cut is within = omega arith
 
-abbrev pieceTo : ℕ → List ℕ → Way → List ℕ
-pieceTo end stream w = part stream w.taken (end - w.taken)
+abbrev piece_to : ℕ → List ℕ → Way → List ℕ
+piece_to end stream w = part stream w.taken (end - w.taken)
 
 -- the call with the bytes up to there comes to this
 abbrev pub Comes : List ℕ → ℕ → Way → Outcome → Type 0
-Comes stream end w o = call w.at.reader w.at.segment w.at.reassembly (pieceTo end stream w) ≡ o
+Comes stream end w o = call w.at.reader w.at.segment w.at.reassembly (piece_to end stream w) ≡ o
 
 module _ {stream : List ℕ} {end : ℕ} {w : Way} (asked : Going stream w × (w.taken ≤ end) × (end ≤ length stream)) where
   abbrev g : Going stream w
   g = asked.0
 
   abbrev piece : List ℕ
-  piece = pieceTo end stream w
+  piece = piece_to end stream w
 
   abbrev behind : List ℕ
   behind = drop end stream
 
-  piece-length : length piece ≡ end - w.taken
-  piece-length = length_part stream w.taken (end - w.taken) (omega (arith, asked.2))
+  piece_length : length piece ≡ end - w.taken
+  piece_length = length_part stream w.taken (end - w.taken) (omega (arith, asked.2))
 
   -- the piece and what follows it are all that was not taken
   parted : piece ++ behind ≡ drop w.taken stream
@@ -116,8 +116,8 @@ module _ {stream : List ℕ} {end : ℕ} {w : Way} (asked : Going stream w × (w
     abbrev kept : Kept reader w.at piece (step_of (outcome answer n x seg' re'))
     kept = kept_by reader lawful g.ready (ap step_of e)
 
-    pub turn-within : w.taken + n ≤ end
-    turn-within = omega (arith, kept.within, piece-length, asked.1)
+    pub turn_within : w.taken + n ≤ end
+    turn_within = omega (arith, kept.within, piece_length, asked.1)
 
     -- where the caller then stands
     abbrev pub after : Tape → Way
@@ -126,9 +126,9 @@ module _ {stream : List ℕ} {end : ℕ} {w : Way} (asked : Going stream w × (w
     answered : (said : Said) → Hands reader w.at piece n said (state x seg' re') → {t : Tape} → t ≡ noted (bytes_of said) (mark_of said) w.tape → Answered stream end w (after t)
     answered said d q =
         record {
-          going = record { ready = kept.good; untouched = d.sure g.untouched; within = omega (arith, turn-within, asked.2) };
-          most = turn-within;
-          less = nearer (ahead w.at) (ahead (state x seg' re')) w.taken n end d.less (length-drop n piece) piece-length turn-within;
+          going = record { ready = kept.good; untouched = d.sure g.untouched; within = omega (arith, turn_within, asked.2) };
+          most = turn_within;
+          less = nearer (ahead w.at) (ahead (state x seg' re')) w.taken n end d.less (length-drop n piece) piece_length turn_within;
           onward = record {
             handed = dated (w.taken + n) said ∷ [];
             notes = q;
@@ -139,21 +139,21 @@ module _ {stream : List ℕ} {end : ℕ} {w : Way} (asked : Going stream w × (w
         }
 
   module _ {n : ℕ} {x : Reader} {seg' re' : List ℕ} where
-    pub envelope-turn : {buffer : Buffer} {at : Place} {v : Envelope} (e : Comes stream end w (outcome (envelopeAt buffer at v) n x seg' re')) {t : Tape} {bytes : List ℕ}
+    pub envelope_turn : {buffer : Buffer} {at : Place} {v : Envelope} (e : Comes stream end w (outcome (envelope_at buffer at v) n x seg' re')) {t : Tape} {bytes : List ℕ}
         → bytes ≡ bytes_at buffer seg' re' at → t ≡ noted bytes (length bytes * 2) w.tape → Answered stream end w (after e t)
-    envelope-turn {buffer} {at} {v} e b q = answered e (envelopeOf buffer at (bytes_at buffer seg' re' at) v) (kept e).does (q ∙ ap (λ (l : List ℕ). noted l (length l * 2) w.tape) b)
+    envelope_turn {buffer} {at} {v} e b q = answered e (envelope_of buffer at (bytes_at buffer seg' re' at) v) (kept e).does (q ∙ ap (λ (l : List ℕ). noted l (length l * 2) w.tape) b)
 
-    pub leftover-turn : {left : ℕ} (e : Comes stream end w (outcome (leftover left) n x seg' re')) {t : Tape} → t ≡ noted [] (left * 2 + 1) w.tape → Answered stream end w (after e t)
-    leftover-turn {left} e q = answered e (leftoverOf left) (kept e).does q
+    pub leftover_turn : {left : ℕ} (e : Comes stream end w (outcome (leftover left) n x seg' re')) {t : Tape} → t ≡ noted [] (left * 2 + 1) w.tape → Answered stream end w (after e t)
+    leftover_turn {left} e q = answered e (leftover_of left) (kept e).does q
 
     -- a leftover is no longer than a buffer
-    pub leftover-small : {left : ℕ} → Comes stream end w (outcome (leftover left) n x seg' re') → left ≤ maxReassembly
-    leftover-small e = (subst (Called w.at piece 0) e (called w.at.reader w.at.segment w.at.reassembly piece g.ready)).told.small
+    pub leftover_small : {left : ℕ} → Comes stream end w (outcome (leftover left) n x seg' re') → left ≤ max_reassembly
+    leftover_small e = (subst (Called w.at piece 0) e (called w.at.reader w.at.segment w.at.reassembly piece g.ready)).told.small
 
     pub more_turn : (e : Comes stream end w (outcome more n x seg' re')) → PieceUsed stream end w (after e w.tape)
     more_turn e =
         let d = (kept e).does in
-        let all : w.taken + n ≡ end = omega (arith, d.all, piece-length, asked.1) in
+        let all : w.taken + n ≡ end = omega (arith, d.all, piece_length, asked.1) in
         record {
           going = record { ready = (kept e).good; untouched = d.sure g.untouched; within = omega (arith, all, asked.2) };
           all = all;
@@ -163,20 +163,20 @@ module _ {stream : List ℕ} {end : ℕ} {w : Way} (asked : Going stream w × (w
             notes = refl;
             gives =
                 λ xs c last u i. subst (λ (l : List ℕ). Uses reads w.at w.taken l xs c last u) parted
-                (one_then reader lawful behind g.ready (by-more (ap step_of e)) (subst (λ (j : ℕ). Uses reads (state x seg' re') (w.taken + n) (drop j stream) xs c last u) all i));
+                (one_then reader lawful behind g.ready (by_more (ap step_of e)) (subst (λ (j : ℕ). Uses reads (state x seg' re') (w.taken + n) (drop j stream) xs c last u) all i));
           };
         }
 
-    pub refused-turn : {why : Refusal} → Comes stream end w (outcome (refused why) n x seg' re') → Over stream w w.tape (refusedEnd why (w.taken + n)) seg' re'
-    refused-turn {why} e =
+    pub refused_turn : {why : Refusal} → Comes stream end w (outcome (refused why) n x seg' re') → Over stream w w.tape (refused_end why (w.taken + n)) seg' re'
+    refused_turn {why} e =
         record {
           handed = [];
-          close = refusedWith why;
+          close = refused_with why;
           taken = w.taken + n;
           reader = x;
           gives =
-              subst (λ (l : List ℕ). Uses reads w.at w.taken l [] (refusedWith why) (w.taken + n) (state x seg' re')) parted
-              (refused-longer reader lawful behind g.ready (by-refusal (ap step_of e)));
+              subst (λ (l : List ℕ). Uses reads w.at w.taken l [] (refused_with why) (w.taken + n) (state x seg' re')) parted
+              (refused_longer reader lawful behind g.ready (by_refusal (ap step_of e)));
           notes = refl;
           ends = refl;
         }
@@ -188,23 +188,23 @@ module _ (end : ℕ) {stream : List ℕ} {w : Way} {S R E M : List ℕ} where
   unfolding TurnIs
   turn_on is m = subst (λ (x : Turn). TurnIs x end stream w S R E M) is m
 
-  pub used-up : {y : Used} {p : Progress} → y ≡ Used.Up p → UsedIs y end stream w S R E M → PieceUsed stream end w (way_of p S R E M)
+  pub used_up_lem : {y : Used} {p : Progress} → y ≡ Used.Up p → UsedIs y end stream w S R E M → PieceUsed stream end w (way_of p S R E M)
   unfolding UsedIs
-  used-up is m = subst (λ (x : Used). UsedIs x end stream w S R E M) is m
+  used_up_lem is m = subst (λ (x : Used). UsedIs x end stream w S R E M) is m
 
-  pub used-stopped : {y : Used} {c : Collected} → y ≡ Used.Stopped c → UsedIs y end stream w S R E M → AllHeard c stream w S R E M
+  pub used_stopped : {y : Used} {c : Collected} → y ≡ Used.Stopped c → UsedIs y end stream w S R E M → AllHeard c stream w S R E M
   unfolding UsedIs
-  used-stopped is m = subst (λ (x : Used). UsedIs x end stream w S R E M) is m
+  used_stopped is m = subst (λ (x : Used). UsedIs x end stream w S R E M) is m
 
 -- what was handed on before comes first
-used-then : (u : Used) {stream : List ℕ} {w v : Way} (end : ℕ) (S R E M : List ℕ) → Onward stream w v → UsedIs u end stream v S R E M → UsedIs u end stream w S R E M
+used_then : (u : Used) {stream : List ℕ} {w v : Way} (end : ℕ) (S R E M : List ℕ) → Onward stream w v → UsedIs u end stream v S R E M → UsedIs u end stream w S R E M
 unfolding UsedIs
-used-then (Used.Up p) end S R E M o m = record { going = m.going; all = m.all; wants = m.wants; onward = onward_then o m.onward }
-used-then (Used.Stopped c) end S R E M o m = onward-over o m
+used_then (Used.Up p) end S R E M o m = record { going = m.going; all = m.all; wants = m.wants; onward = onward_then o m.onward }
+used_then (Used.Stopped c) end S R E M o m = onward_over o m
 
-pub turn-done : {y : Turn} {u : Used} {stream : List ℕ} {w v : Way} (end : ℕ) (S R E M : List ℕ) → Onward stream w v → y ≡ Turn.Done u → TurnIs y end stream v S R E M → UsedIs u end stream w S R E M
+pub turn_done : {y : Turn} {u : Used} {stream : List ℕ} {w v : Way} (end : ℕ) (S R E M : List ℕ) → Onward stream w v → y ≡ Turn.Done u → TurnIs y end stream v S R E M → UsedIs u end stream w S R E M
 unfolding TurnIs
-turn-done {u = u} {stream} {v = v} end S R E M o is m = used-then u end S R E M o (subst (λ (x : Turn). TurnIs x end stream v S R E M) is m)
+turn_done {u = u} {stream} {v = v} end S R E M o is m = used_then u end S R E M o (subst (λ (x : Turn). TurnIs x end stream v S R E M) is m)
 
 -- ---- the end
 
@@ -222,69 +222,69 @@ module _ {stream : List ℕ} {w v : Way} (used : PieceUsed stream (length stream
   none_left : drop v.taken stream ≡ []
   none_left = ap (λ (n : ℕ). drop n stream) used.all ∙ drop-length stream
 
-  held-end : heldEnd (countsOf r).there (take (countsOf r).there seg) r.pending (take r.pending re) ≡ end_of (holding (holds v.at))
-  held-end =
-      let room : Roomy (length seg) (countsOf r) = roomy used.going.ready.ok in
-      let none : ((countsOf r).from ≡ 0) × ((countsOf r).pending ≡ r.pending) = none-handed r.form r.pending r.phase used.wants in
-      let all : take r.pending re ≡ (holds v.at).pending = ap₂ (λ (i n : ℕ). part re i n) (sym none.0) (let i : r.pending ≡ (countsOf r).pending - (countsOf r).from = omega (arith, none.0, none.1) in i) in
-      ap₂ (λ (i j : ℕ). heldEnd i (take (countsOf r).there seg) j (take r.pending re)) (sym (length-take-le (countsOf r).there seg (omega (arith, room.0, room.1))))
+  held_end_lem : held_end (counts_of r).there (take (counts_of r).there seg) r.pending (take r.pending re) ≡ end_of (holding (holds v.at))
+  held_end_lem =
+      let room : Roomy (length seg) (counts_of r) = roomy used.going.ready.ok in
+      let none : ((counts_of r).from ≡ 0) × ((counts_of r).pending ≡ r.pending) = none_handed r.form r.pending r.phase used.wants in
+      let all : take r.pending re ≡ (holds v.at).pending = ap₂ (λ (i n : ℕ). part re i n) (sym none.0) (let i : r.pending ≡ (counts_of r).pending - (counts_of r).from = omega (arith, none.0, none.1) in i) in
+      ap₂ (λ (i j : ℕ). held_end i (take (counts_of r).there seg) j (take r.pending re)) (sym (length-take-le (counts_of r).there seg (omega (arith, room.0, room.1))))
       (sym (length-take-le r.pending re used.going.ready.ok.held))
-      ∙ ap (λ (p : List ℕ). heldEnd (length (take (countsOf r).there seg)) (take (countsOf r).there seg) (length p) p) all
+      ∙ ap (λ (p : List ℕ). held_end (length (take (counts_of r).there seg)) (take (counts_of r).there seg) (length p) p) all
     where
-      none-handed : (f : Form) (p : ℕ) (q : Phase) → 0 < wanted (countsIn f p q) → ((countsIn f p q).from ≡ 0) × ((countsIn f p q).pending ≡ p)
-      none-handed f p (inHeader n) w = (refl, refl)
-      none-handed f p (inRest n len self) w = (refl, refl)
-      none-handed f p (inSegment len at) w = absurd (omega arith)
-      none-handed f p (inReassembly at) w = absurd (omega arith)
-      none-handed f p (stopped why) w = absurd (omega arith)
+      none_handed : (f : Form) (p : ℕ) (q : Phase) → 0 < wanted (counts_in f p q) → ((counts_in f p q).from ≡ 0) × ((counts_in f p q).pending ≡ p)
+      none_handed f p (in_header n) w = (refl, refl)
+      none_handed f p (in_rest n len self) w = (refl, refl)
+      none_handed f p (in_segment len at) w = absurd (omega arith)
+      none_handed f p (in_reassembly at) w = absurd (omega arith)
+      none_handed f p (stopped why) w = absurd (omega arith)
 
-  pub over-used : {t : Tape} {e : Ending} → t ≡ v.tape → e ≡ heldEnd (countsOf r).there (take (countsOf r).there seg) r.pending (take r.pending re) → Over stream w t e seg re
-  over-used p q =
-      onward-over used.onward
+  pub over_used : {t : Tape} {e : Ending} → t ≡ v.tape → e ≡ held_end (counts_of r).there (take (counts_of r).there seg) r.pending (take r.pending re) → Over stream w t e seg re
+  over_used p q =
+      onward_over used.onward
       record {
         handed = [];
-        close = usedUp;
+        close = used_up;
         taken = v.taken + 0;
         reader = r;
         gives =
-            subst (λ (l : List ℕ). Uses reads v.at v.taken l [] usedUp (v.taken + 0) v.at) (sym none_left)
-            (by-more (ap step_of (call-waiting r seg re used.going.ready used.wants)));
+            subst (λ (l : List ℕ). Uses reads v.at v.taken l [] used_up (v.taken + 0) v.at) (sym none_left)
+            (by_more (ap step_of (call_waiting r seg re used.going.ready used.wants)));
         notes = p;
-        ends = q ∙ held-end;
+        ends = q ∙ held_end_lem;
       }
 
 -- ---- the start
 
 -- what is written down of a story's answers, and its end
-collected-saying : (xs : List (Dated Said)) (m : Meaning) (t : Tape) → collected (saying xs m) t ≡ collected m (notedAll xs t)
-collected-saying [] m t = refl
-collected-saying (x ∷ xs) m t = collected-saying xs m (noted (bytes_of x.what) (mark_of x.what) t)
+collected_saying : (xs : List (Dated Said)) (m : Meaning) (t : Tape) → collected (saying xs m) t ≡ collected m (noted_all xs t)
+collected_saying [] m t = refl
+collected_saying (x ∷ xs) m t = collected_saying xs m (noted (bytes_of x.what) (mark_of x.what) t)
 
-pub end-saying : (xs : List (Dated Said)) (m : Meaning) → end_of (saying xs m) ≡ end_of m
-end-saying [] m = refl
-end-saying (x ∷ xs) m = end-saying xs m
+pub end_saying : (xs : List (Dated Said)) (m : Meaning) → end_of (saying xs m) ≡ end_of m
+end_saying [] m = refl
+end_saying (x ∷ xs) m = end_saying xs m
 
 abbrev closing : Close Refusal → ℕ → State → Meaning
-closing usedUp n t = holding (holds t)
-closing (refusedWith why) n t = refusedAfter why n
+closing used_up n t = holding (holds t)
+closing (refused_with why) n t = refused_after why n
 
-closing-tape : (c : Close Refusal) (n : ℕ) (s : State) (t : Tape) → collected (closing c n s) t ≡ t
-closing-tape usedUp n s t = refl
-closing-tape (refusedWith why) n s t = refl
+closing_tape : (c : Close Refusal) (n : ℕ) (s : State) (t : Tape) → collected (closing c n s) t ≡ t
+closing_tape used_up n s t = refl
+closing_tape (refused_with why) n s t = refl
 
-closing_end : (c : Close Refusal) (n : ℕ) (s : State) → end_of (closing c n s) ≡ endingOf c n s
-closing_end usedUp n s = refl
-closing_end (refusedWith why) n s = refl
+closing_end : (c : Close Refusal) (n : ℕ) (s : State) → end_of (closing c n s) ≡ ending_of c n s
+closing_end used_up n s = refl
+closing_end (refused_with why) n s = refl
 
 -- a story that a fresh reader told, once it is told
 closes : (f : Form) (seg re stream : List ℕ) → in_range (length seg) (length re) ≡ true → (c : Close Refusal) {xs : List (Dated Said)} {n : ℕ} {t : State}
-    → Told reader lawful (start f seg re) 0 stream xs c n t → heardOf f (length seg) (length re) stream ≡ saying xs (closing c n t)
-closes f seg re stream range usedUp {xs} {n} {t} i =
-    sym (fresh-rest f seg re range stream)
+    → Told reader lawful (start f seg re) 0 stream xs c n t → heard_of f (length seg) (length re) stream ≡ saying xs (closing c n t)
+closes f seg re stream range used_up {xs} {n} {t} i =
+    sym (fresh_rest f seg re range stream)
     ∙ ap (reader.rest (start f seg re) 0) (sym (append-nil stream))
     ∙ i.same tt []
     ∙ ap (saying xs) (lawful.quiet t n i.good (i.rests.2 tt) i.rests.1)
-closes f seg re stream range (refusedWith why) i = sym (fresh-rest f seg re range stream) ∙ ap (reader.rest (start f seg re) 0) (sym (append-nil stream)) ∙ i.same tt []
+closes f seg re stream range (refused_with why) i = sym (fresh_rest f seg re range stream) ∙ ap (reader.rest (start f seg re) 0) (sym (append-nil stream)) ∙ i.same tt []
 
 -- before the stream's first byte
 abbrev first : Reader → List ℕ → List ℕ → List ℕ → List ℕ → Way
@@ -292,29 +292,29 @@ first x seg re envelopes marks = record { at = state x seg re; taken = 0; tape =
 
 module _ {f : Form} {seg re stream envelopes marks : List ℕ} where
   module _ (range : in_range (length seg) (length re) ≡ true) {x : Reader} (new : x ≡ fresh f (length seg) (length re)) where
-    pub start-going : Going stream (first x seg re envelopes marks)
-    start-going = subst (λ (y : Reader). Going stream (first y seg re envelopes marks)) (sym new) record { ready = fresh-ready f seg re range; untouched = tt; within = omega arith }
+    pub start_going : Going stream (first x seg re envelopes marks)
+    start_going = subst (λ (y : Reader). Going stream (first y seg re envelopes marks)) (sym new) record { ready = fresh_ready f seg re range; untouched = tt; within = omega arith }
 
-    pub start-over : {t : Tape} {e : Ending} {S R : List ℕ} → Over stream (first x seg re envelopes marks) t e S R → HeardAs f seg re stream envelopes marks t e S R
-    start-over {t} {e} {S} {R} over =
+    pub start_over : {t : Tape} {e : Ending} {S R : List ℕ} → Over stream (first x seg re envelopes marks) t e S R → HeardAs f seg re stream envelopes marks t e S R
+    start_over {t} {e} {S} {R} over =
         let o = subst (λ (y : Reader). Over stream (first y seg re envelopes marks) t e S R) new over in
         let last : State = state o.reader S R in
-        let same : heardOf f (length seg) (length re) stream ≡ saying o.handed (closing o.close o.taken last) = closes f seg re stream range o.close (told reader lawful (fresh-ready f seg re range) o.gives) in
+        let same : heard_of f (length seg) (length re) stream ≡ saying o.handed (closing o.close o.taken last) = closes f seg re stream range o.close (told reader lawful (fresh_ready f seg re range) o.gives) in
         record {
           tells =
               o.notes
               ∙ sym (ap (λ (m : Meaning). collected m (blank envelopes marks)) same
-              ∙ collected-saying o.handed (closing o.close o.taken last) (blank envelopes marks)
-              ∙ closing-tape o.close o.taken last (notedAll o.handed (blank envelopes marks)));
-          ends = o.ends ∙ sym (ap end_of same ∙ end-saying o.handed (closing o.close o.taken last) ∙ closing_end o.close o.taken last);
+              ∙ collected_saying o.handed (closing o.close o.taken last) (blank envelopes marks)
+              ∙ closing_tape o.close o.taken last (noted_all o.handed (blank envelopes marks)));
+          ends = o.ends ∙ sym (ap end_of same ∙ end_saying o.handed (closing o.close o.taken last) ∙ closing_end o.close o.taken last);
           leaves = record { handed = o.handed; close = o.close; taken = o.taken; reader = o.reader; uses = o.gives };
         }
 
   -- lengths out of range
-  pub start-refused : in_range (length seg) (length re) ≡ false → HeardAs f seg re stream envelopes marks (blank envelopes marks) (refusedEnd inadmissible 0) seg re
-  start-refused range =
+  pub start_refused : in_range (length seg) (length re) ≡ false → HeardAs f seg re stream envelopes marks (blank envelopes marks) (refused_end inadmissible 0) seg re
+  start_refused range =
       record {
-        tells = sym (ap (λ (m : Meaning). collected m (blank envelopes marks)) (heard-none f seg re range stream));
-        ends = sym (ap end_of (heard-none f seg re range stream));
-        leaves = record { handed = []; close = refusedWith inadmissible; taken = 0 + 0; reader = (start f seg re).reader; uses = by-refusal (out_of_range f seg re range stream) };
+        tells = sym (ap (λ (m : Meaning). collected m (blank envelopes marks)) (heard_none f seg re range stream));
+        ends = sym (ap end_of (heard_none f seg re range stream));
+        leaves = record { handed = []; close = refused_with inadmissible; taken = 0 + 0; reader = (start f seg re).reader; uses = by_refusal (out_of_range f seg re range stream) };
       }

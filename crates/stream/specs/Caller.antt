@@ -1,12 +1,12 @@
 -- A caller who gives a stream in pieces, and what it hears: docs/RULES.md, 6.3 and 6.11. Assumes nothing.
 use Rattle.std.specs.Prelude.{ℕ, ◌+◌, ◌-◌, Bool, true, false, cond, List, [], ◌∷◌, length, take}
-use Rattle.basis.specs.Machine.{Reply, handsOn, asksMore, refusesWith, Step, step, Dated, refusedAfter, Close, Uses, Hears}
+use Rattle.basis.specs.Machine.{Reply, hands_on, asks_more, refuses_with, Step, step, Dated, refused_after, Close, Uses, Hears}
 use Rattle.refusal.specs.Refusal.{Refusal, inadmissible}
 use Rattle.types.specs.Number.{part}
 use Rattle.segment.specs.Header.{Form}
-use Rattle.frame_decoder.specs.Reader.{Reader, fresh, bytes_at, Answer, envelopeAt, leftover, more, refused, Counts, countsOf, in_range, heldIn}
+use Rattle.frame_decoder.specs.Reader.{Reader, fresh, bytes_at, Answer, envelope_at, leftover, more, refused, Counts, counts_of, in_range, held_in}
 use Rattle.frame_decoder.specs.Call.{Outcome, call}
-use Rattle.stream.specs.Meaning.{lent, Said, envelopeOf, leftoverOf, Held, held, Meaning, meaning}
+use Rattle.stream.specs.Meaning.{lent, Said, envelope_of, leftover_of, Held, held, Meaning, meaning}
 
 -- ---- the reader as a machine
 
@@ -20,14 +20,14 @@ abbrev pub state : Reader → List ℕ → List ℕ → State
 state r segment reassembly = record { reader = r; segment = segment; reassembly = reassembly }
 
 -- what is heard of an answer, the buffers then holding this; an envelope with its place and its bytes
-abbrev pub replyOf : Answer → List ℕ → List ℕ → Reply Said Refusal
-replyOf (envelopeAt buffer at e) segment reassembly = handsOn (envelopeOf buffer at (bytes_at buffer segment reassembly at) e)
-replyOf (leftover n) segment reassembly = handsOn (leftoverOf n)
-replyOf more segment reassembly = asksMore
-replyOf (refused why) segment reassembly = refusesWith why
+abbrev pub reply_of : Answer → List ℕ → List ℕ → Reply Said Refusal
+reply_of (envelope_at buffer at e) segment reassembly = hands_on (envelope_of buffer at (bytes_at buffer segment reassembly at) e)
+reply_of (leftover n) segment reassembly = hands_on (leftover_of n)
+reply_of more segment reassembly = asks_more
+reply_of (refused why) segment reassembly = refuses_with why
 
 abbrev pub step_of : Outcome → Step State Said Refusal
-step_of o = step (replyOf o.answer o.segment o.reassembly) o.taken (state o.reader o.segment o.reassembly)
+step_of o = step (reply_of o.answer o.segment o.reassembly) o.taken (state o.reader o.segment o.reassembly)
 
 -- one call of the reader
 abbrev pub reads : State → List ℕ → Step State Said Refusal
@@ -35,15 +35,15 @@ reads s piece = step_of (call s.reader s.segment s.reassembly piece)
 
 -- ---- 6.11: the bytes held
 
-abbrev pub holdsBy : Counts → List ℕ → List ℕ → Held
-holdsBy c segment reassembly = held (take c.there segment) (part reassembly c.from (c.pending - c.from))
+abbrev pub holds_by : Counts → List ℕ → List ℕ → Held
+holds_by c segment reassembly = held (take c.there segment) (part reassembly c.from (c.pending - c.from))
 
 abbrev pub holds : State → Held
-holds s = holdsBy (countsOf s.reader) s.segment s.reassembly
+holds s = holds_by (counts_of s.reader) s.segment s.reassembly
 
 -- bytes that a reader holds or has still to deliver
 abbrev pub undelivered : Counts → ℕ
-undelivered c = heldIn c + (c.all - c.read)
+undelivered c = held_in c + (c.all - c.read)
 
 -- ---- a fresh reader
 
@@ -56,8 +56,8 @@ abbrev pub HearsOf : Form → List ℕ → List ℕ → List (List ℕ) → Mean
 HearsOf form segment reassembly pieces m = Hears reads holds (start form segment reassembly) 0 pieces m
 
 -- what the stream means to it: 1 where a lent length is out of range
-unfoldable pub heardOf : Form → ℕ → ℕ → List ℕ → Meaning
-heardOf form segment reassembly stream = cond (in_range segment reassembly) (meaning (lent form segment reassembly) stream) (refusedAfter inadmissible 0)
+unfoldable pub heard_of : Form → ℕ → ℕ → List ℕ → Meaning
+heard_of form segment reassembly stream = cond (in_range segment reassembly) (meaning (lent form segment reassembly) stream) (refused_after inadmissible 0)
 
 -- without a call 1 is not heard: a piece is given, empty or not, or the lengths are in range
 abbrev pub Asked : Bool → List (List ℕ) → Type 0

@@ -1,10 +1,10 @@
 -- Readers that the promise of a call shuts out, by name. Assumes nothing.
 use Rattle.std.specs.Prelude.{ℕ, ◌≡◌, Bool, true, false, List, [], ◌∷◌, ℤ, pos, negsuc, drop}
-use Rattle.basis.specs.Machine.{Step, says, refusedAfter, holding}
+use Rattle.basis.specs.Machine.{Step, says, refused_after, holding}
 use Rattle.refusal.specs.Refusal.{Refusal}
 use Rattle.types.specs.Read.{Place, place, strings}
 use Rattle.frame.specs.Envelope.{Envelope}
-use Rattle.frame_decoder.specs.Reader.{Reader, Buffer, envelopeAt, more, refused}
+use Rattle.frame_decoder.specs.Reader.{Reader, Buffer, envelope_at, more, refused}
 use Rattle.frame_decoder.specs.Call.{Outcome, call}
 use Rattle.stream.specs.Meaning.{Said, Meaning}
 use Rattle.stream.specs.Caller.{State, step_of}
@@ -21,10 +21,10 @@ abbrev pub machine_of : Reads → State → List ℕ → Step State Said Refusal
 machine_of R s piece = step_of (R s.reader s.segment s.reassembly piece)
 
 -- after how many bytes the answers come, and a refusal
-abbrev pub datesOf : Meaning → List ℕ
-datesOf (says x m) = x.after ∷ datesOf m
-datesOf (refusedAfter why taken) = taken ∷ []
-datesOf (holding h) = []
+abbrev pub dates_of : Meaning → List ℕ
+dates_of (says x m) = x.after ∷ dates_of m
+dates_of (refused_after why taken) = taken ∷ []
+dates_of (holding h) = []
 
 -- ---- wrong ones
 
@@ -32,7 +32,7 @@ abbrev pub RefusesEverything : Reads → Type 0
 RefusesEverything R = (r : Reader) (segment reassembly piece : List ℕ) → (why : Refusal) × ((R r segment reassembly piece).answer ≡ refused why)
 
 abbrev pub NamesOneEnvelope : Reads → Type 0
-NamesOneEnvelope R = (e : Envelope) × ((r : Reader) (segment reassembly piece : List ℕ) → (buffer : Buffer) × (at : Place) × ((R r segment reassembly piece).answer ≡ envelopeAt buffer at e))
+NamesOneEnvelope R = (e : Envelope) × ((r : Reader) (segment reassembly piece : List ℕ) → (buffer : Buffer) × (at : Place) × ((R r segment reassembly piece).answer ≡ envelope_at buffer at e))
 
 abbrev pub AsksForever : Reads → Type 0
 AsksForever R = (r : Reader) (segment reassembly piece : List ℕ) → (R r segment reassembly piece).answer ≡ more
@@ -49,8 +49,8 @@ OnlyNods R = (r : Reader) (segment reassembly piece : List ℕ) → (next R r se
 -- ---- what they are caught with: docs/RULES.md, section 13, P5 and P6
 
 -- nine bytes that are a header alone, with this direction, stream number and opcode
-abbrev headerAlone : Bool → ℤ → ℕ → Envelope
-headerAlone response stream opcode =
+abbrev header_alone : Bool → ℤ → ℕ → Envelope
+header_alone response stream opcode =
     record {
       size = 9;
       header = record { version = 5; response = response; flags = 0; stream = stream; opcode = opcode };
@@ -62,11 +62,11 @@ headerAlone response stream opcode =
 abbrev pub P5 : List ℕ
 P5 = 0x05 ∷ 0x00 ∷ 0x00 ∷ 0x01 ∷ 0x05 ∷ 0x00 ∷ 0x00 ∷ 0x00 ∷ 0x00 ∷ []
 
-abbrev pub readingOfP5 : Envelope
-readingOfP5 = headerAlone false (pos 1) 0x05
+abbrev pub reading_of_p5 : Envelope
+reading_of_p5 = header_alone false (pos 1) 0x05
 
 abbrev pub P6 : List ℕ
 P6 = 0x85 ∷ 0x00 ∷ 0xff ∷ 0xff ∷ 0x0c ∷ 0x00 ∷ 0x00 ∷ 0x00 ∷ 0x00 ∷ []
 
-abbrev pub readingOfP6 : Envelope
-readingOfP6 = headerAlone true (negsuc 0) 0x0c
+abbrev pub reading_of_p6 : Envelope
+reading_of_p6 = header_alone true (negsuc 0) 0x0c

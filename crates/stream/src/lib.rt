@@ -1,11 +1,11 @@
 // A caller who gives a whole stream to a reader in pieces and writes down what it hears; above it, in specs/ and proofs/, what a stream means and that the pieces don't matter.
 // `specs/Paper.antt` says what each case of an answer means.
 ghost use Rattle.std.specs.Prelude.{◌≡◌, ◌+◌, ◌≤◌, min, length};
-ghost use Rattle.segment.specs.Paper.{paperForm};
-ghost use Rattle.frame_decoder.specs.Reader.{countsOf};
-ghost use Rattle.frame_decoder.specs.Paper.{paperReader};
+ghost use Rattle.segment.specs.Paper.{paper_form};
+ghost use Rattle.frame_decoder.specs.Reader.{counts_of};
+ghost use Rattle.frame_decoder.specs.Paper.{paper_reader};
 ghost use Rattle.stream.specs.Collect.{noted, HeardAs};
-ghost use Rattle.stream.specs.Paper.{tapeOf, paperEnd};
+ghost use Rattle.stream.specs.Paper.{tape_of, paper_end};
 ghost use Rattle.stream.specs.Private.Inside.{Going};
 ghost use Rattle.stream.specs.declared.End.{End};
 ghost use Rattle.stream.specs.Private.Turn.{way_of, AllHeard, TurnIs, UsedIs};
@@ -41,7 +41,7 @@ pub struct Collected {
 
 // An answer's bytes behind those before, and its mark.
 fn note(notes: Notes, envelopes: &mut [u8], marks: &mut [usize], bytes: &[u8], mark: usize) -> Notes
-    ensures { tapeOf result envelopes.new marks.new ≡ noted bytes.now mark (tapeOf notes envelopes.old marks.old) }
+    ensures { tape_of result envelopes.new marks.new ≡ noted bytes.now mark (tape_of notes envelopes.old marks.old) }
 {
     let answers = notes.answers;
     let count = notes.bytes;
@@ -176,7 +176,7 @@ fn piece_end(taken: usize, cut: usize, len: usize) -> usize
 
 // The reader waits, and nothing more comes.
 fn at_end(p: Progress) -> Collected
-    ensures { (result.notes ≡ p.notes) × (result.end ≡ End.Held (countsOf (paperReader p.reader)).there p.reader.pending) }
+    ensures { (result.notes ≡ p.notes) × (result.end ≡ End.Held (counts_of (paper_reader p.reader)).there p.reader.pending) }
 {
     let notes = p.notes;
     let reader = p.reader;
@@ -255,7 +255,7 @@ pub fn collect(
     envelopes: &mut [u8],
     marks: &mut [usize],
 ) -> Collected
-    ensures { HeardAs (paperForm form) segment.old reassembly.old stream.now envelopes.old marks.old (tapeOf result.notes envelopes.new marks.new) (paperEnd result.end segment.new reassembly.new) segment.new reassembly.new }
+    ensures { HeardAs (paper_form form) segment.old reassembly.old stream.now envelopes.old marks.old (tape_of result.notes envelopes.new marks.new) (paper_end result.end segment.new reassembly.new) segment.new reassembly.new }
 {
     let notes = Notes {
         answers: 0,

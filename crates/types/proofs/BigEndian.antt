@@ -10,33 +10,33 @@ use lib.ListN.{length, take, drop, get_or, length-drop, length-append}
 use lib.Seq.{take-suc, take_all, get_or-drop, length-take-le}
 use lib.Arith.{digits_lt, mod-mul, digits_div, digits_mod}
 use Rattle.basis.specs.Bytes.{Bytes}
-use Rattle.types.specs.Number.{be, beFrom, part, digits}
+use Rattle.types.specs.Number.{be, be_from, part, digits}
 
 -- ---- one byte more
 
-be-from-snoc : (v : ℕ) (s : List ℕ) (b : ℕ) → beFrom v (s ++ (b ∷ [])) ≡ beFrom v s * 256 + b
-unfolding beFrom
-be-from-snoc v [] b = refl
-be-from-snoc v (a ∷ s) b = be-from-snoc (v * 256 + a) s b
+be_from_snoc : (v : ℕ) (s : List ℕ) (b : ℕ) → be_from v (s ++ (b ∷ [])) ≡ be_from v s * 256 + b
+unfolding be_from
+be_from_snoc v [] b = refl
+be_from_snoc v (a ∷ s) b = be_from_snoc (v * 256 + a) s b
 
-be-snoc : (s : List ℕ) (b : ℕ) → be (s ++ (b ∷ [])) ≡ be s * 256 + b
+be_snoc : (s : List ℕ) (b : ℕ) → be (s ++ (b ∷ [])) ≡ be s * 256 + b
 unfolding be
-be-snoc s b = be-from-snoc 0 s b
+be_snoc s b = be_from_snoc 0 s b
 
-part-suc : (s : List ℕ) (at i : ℕ) → at + i < length s → part s at (i + 1) ≡ part s at i ++ (get_or s (at + i) 0 ∷ [])
-part-suc s at i h =
+part_suc : (s : List ℕ) (at i : ℕ) → at + i < length s → part s at (i + 1) ≡ part s at i ++ (get_or s (at + i) 0 ∷ [])
+part_suc s at i h =
     let k : i < length (drop at s) = simp length-drop (omega arith) in
     rw (add-one, take-suc (drop at s) i 0, get_or-drop)
 
-pub be-part-suc : (s : List ℕ) (at i : ℕ) → at + i < length s → be (part s at (i + 1)) ≡ be (part s at i) * 256 + get_or s (at + i) 0
-be-part-suc s at i h = ap be (part-suc s at i h) ∙ be-snoc (part s at i) (get_or s (at + i) 0)
+pub be_part_suc : (s : List ℕ) (at i : ℕ) → at + i < length s → be (part s at (i + 1)) ≡ be (part s at i) * 256 + get_or s (at + i) 0
+be_part_suc s at i h = ap be (part_suc s at i h) ∙ be_snoc (part s at i) (get_or s (at + i) 0)
 
-pub more-below : (i : ℕ) {v b : ℕ} → v < 256 ^ i → b < 256 → v * 256 + b < 256 ^ (i + 1)
-more-below i hv hb = rw (add-one, pow-suc) (digits_lt hv hb)
+pub more_below : (i : ℕ) {v b : ℕ} → v < 256 ^ i → b < 256 → v * 256 + b < 256 ^ (i + 1)
+more_below i hv hb = rw (add-one, pow-suc) (digits_lt hv hb)
 
 -- what i + 1 bytes hold is less than what 8 do
-pub below-eight : {i x : ℕ} → i < 8 → x < 256 ^ (i + 1) → x < 2 ^ 64
-below-eight {i} h k = lt_of_lt_of_le k (pow-le-pow_right {n = 256} (zero-lt-suc 255) {j = 8} (omega arith))
+pub below_eight : {i x : ℕ} → i < 8 → x < 256 ^ (i + 1) → x < 2 ^ 64
+below_eight {i} h k = lt_of_lt_of_le k (pow-le-pow_right {n = 256} (zero-lt-suc 255) {j = 8} (omega arith))
 
 -- ---- parts
 
@@ -53,8 +53,8 @@ bytes_take (suc n) [] b i = b i
 bytes_take (suc n) (x ∷ s) b zero = b zero
 bytes_take (suc n) (x ∷ s) b (suc i) = bytes_take n s (λ j. b (suc j)) i
 
-pub bytes-part : (s : List ℕ) (at n : ℕ) → Bytes s → Bytes (part s at n)
-bytes-part s at n b = bytes_take n (drop at s) (λ i. rw get_or-drop (b (at + i)))
+pub bytes_part : (s : List ℕ) (at n : ℕ) → Bytes s → Bytes (part s at n)
+bytes_part s at n b = bytes_take n (drop at s) (λ i. rw get_or-drop (b (at + i)))
 
 -- ---- the bytes of a number
 
@@ -64,44 +64,44 @@ length_digits zero x = refl
 length_digits (suc n) x = length-append (digits n (x / 256)) (x % 256 ∷ []) ∙ ap (λ (k : ℕ). k + 1) (length_digits n (x / 256)) ∙ add-one n
 
 -- the lowest byte of a number, and the n above it
-pub digit-more : (n x : ℕ) → x / 256 % 256 ^ n * 256 + x % 256 ≡ x % 256 ^ suc n
-digit-more n x = sym (mod-mul x (one-le-pow n 256 (zero-lt-suc 255)) (zero-lt-suc 255)) ∙ ap (λ (k : ℕ). x % k) (sym (pow-suc 256 n))
+pub digit_more : (n x : ℕ) → x / 256 % 256 ^ n * 256 + x % 256 ≡ x % 256 ^ suc n
+digit_more n x = sym (mod-mul x (one-le-pow n 256 (zero-lt-suc 255)) (zero-lt-suc 255)) ∙ ap (λ (k : ℕ). x % k) (sym (pow-suc 256 n))
 
 -- written, then read: a number that n bytes hold
-pub be-digits : (n x : ℕ) → be (digits n x) ≡ x % 256 ^ n
-unfolding digits be beFrom
-be-digits zero x = sym (mod-one x)
-be-digits (suc n) x = be-snoc (digits n (x / 256)) (x % 256) ∙ ap (λ (k : ℕ). k * 256 + x % 256) (be-digits n (x / 256)) ∙ digit-more n x
+pub be_digits : (n x : ℕ) → be (digits n x) ≡ x % 256 ^ n
+unfolding digits be be_from
+be_digits zero x = sym (mod-one x)
+be_digits (suc n) x = be_snoc (digits n (x / 256)) (x % 256) ∙ ap (λ (k : ℕ). k * 256 + x % 256) (be_digits n (x / 256)) ∙ digit_more n x
 
-pub be-digits-fit : (n x : ℕ) → x < 256 ^ n → be (digits n x) ≡ x
-be-digits-fit n x h = be-digits n x ∙ mod-eq_of_lt h
+pub be_digits_fit : (n x : ℕ) → x < 256 ^ n → be (digits n x) ≡ x
+be_digits_fit n x h = be_digits n x ∙ mod-eq_of_lt h
 
 -- n + 1 bytes are n bytes and the last
 module _ (n : ℕ) (s : List ℕ) (e : length s ≡ suc n) where
   last_apart : s ≡ take n s ++ (get_or s n 0 ∷ [])
   last_apart = sym (take_all (suc n) s (le_of_eq e)) ∙ take-suc s n 0 (omega arith)
 
-  be-last : be s ≡ be (take n s) * 256 + get_or s n 0
-  be-last = ap be last_apart ∙ be-snoc (take n s) (get_or s n 0)
+  be_last : be s ≡ be (take n s) * 256 + get_or s n 0
+  be_last = ap be last_apart ∙ be_snoc (take n s) (get_or s n 0)
 
-  length-but-last : length (take n s) ≡ n
-  length-but-last = length-take-le n s (omega arith)
+  length_but_last : length (take n s) ≡ n
+  length_but_last = length-take-le n s (omega arith)
 
 -- read, then written
-pub digits-be : (n : ℕ) (s : List ℕ) → length s ≡ n → Bytes s → digits n (be s) ≡ s
+pub digits_be : (n : ℕ) (s : List ℕ) → length s ≡ n → Bytes s → digits n (be s) ≡ s
 unfolding digits
-digits-be zero [] e b = refl
-digits-be zero (x ∷ s) e b = let f : ⊥ = omega arith in absurd f
-digits-be (suc n) s e b =
+digits_be zero [] e b = refl
+digits_be zero (x ∷ s) e b = let f : ⊥ = omega arith in absurd f
+digits_be (suc n) s e b =
     ap₂ (λ (x y : ℕ). digits n x ++ (y ∷ []))
-    (ap (λ (k : ℕ). k / 256) (be-last n s e) ∙ digits_div (be (take n s)) (b n))
-    (ap (λ (k : ℕ). k % 256) (be-last n s e) ∙ digits_mod (be (take n s)) (b n))
-    ∙ ap (λ (l : List ℕ). l ++ (get_or s n 0 ∷ [])) (digits-be n (take n s) (length-but-last n s e) (bytes_take n s b))
+    (ap (λ (k : ℕ). k / 256) (be_last n s e) ∙ digits_div (be (take n s)) (b n))
+    (ap (λ (k : ℕ). k % 256) (be_last n s e) ∙ digits_mod (be (take n s)) (b n))
+    ∙ ap (λ (l : List ℕ). l ++ (get_or s n 0 ∷ [])) (digits_be n (take n s) (length_but_last n s e) (bytes_take n s b))
     ∙ sym (last_apart n s e)
 
 -- what n bytes hold
-pub be-below : (n : ℕ) (s : List ℕ) → length s ≡ n → Bytes s → be s < 256 ^ n
-unfolding be beFrom
-be-below zero [] e b = zero-lt-suc 0
-be-below zero (x ∷ s) e b = let f : ⊥ = omega arith in absurd f
-be-below (suc n) s e b = rw (be-last n s e, ← add-one n) (more-below n (be-below n (take n s) (length-but-last n s e) (bytes_take n s b)) (b n))
+pub be_below : (n : ℕ) (s : List ℕ) → length s ≡ n → Bytes s → be s < 256 ^ n
+unfolding be be_from
+be_below zero [] e b = zero-lt-suc 0
+be_below zero (x ∷ s) e b = let f : ⊥ = omega arith in absurd f
+be_below (suc n) s e b = rw (be_last n s e, ← add-one n) (more_below n (be_below n (take n s) (length_but_last n s e) (bytes_take n s b)) (b n))

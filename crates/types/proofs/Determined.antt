@@ -9,15 +9,15 @@ use mir.Syntax.{w16, w32, w64}
 use mir.Val.{to_z, of_z}
 use denote.Ref.{Bor}
 use Rattle.basis.specs.Determined.{Determined, DeterminedAs}
-use Rattle.basis.proofs.Determined.{Tells, by-equation, by-sight, by-meaning, told-apart}
+use Rattle.basis.proofs.Determined.{Tells, by_equation, by_sight, by_meaning, told_apart}
 use Rattle.types.specs.Number.{digits}
-use Rattle.types.specs.Read.{stepAt, bytesIn}
-use Rattle.types.specs.Write.{put, Check, Wrote, counted, cutBy, listBytes, listCheck}
+use Rattle.types.specs.Read.{step_at, bytes_in}
+use Rattle.types.specs.Write.{put, Check, Wrote, counted, cut_by, list_bytes, list_check}
 use Rattle.types.specs.Answer.{Answer}
-use Rattle.types.specs.Notation.{Notation, byte, short, int, long, uuid, string, longString, stringList, bytes, shortBytes}
-use Rattle.types.specs.Paper.{place_of, paperWritten}
+use Rattle.types.specs.Notation.{Notation, byte, short, int, long, uuid, string, long_string, string_list, bytes, short_bytes}
+use Rattle.types.specs.Paper.{place_of, paper_written}
 use Rattle.types.specs.declared.Written.{Written}
-use Rattle.types.proofs.Told.{byte-told, short-told, int-told, long-told, part-told, bytes-told, strings-told, walked-told, writable-told, written-told}
+use Rattle.types.proofs.Told.{byte_told, short_told, int_told, long_told, part_told, bytes_told, strings_told, walked_told, writable_told, written_told}
 use Rattle.types.proofs.part.Reads as hands
 use Rattle.types.proofs.inner.room.Reads as has_room
 use Rattle.types.proofs.inner.read_number.Reads as reads-number
@@ -57,68 +57,68 @@ use Rattle.types.proofs.write.write_string_list.Reads as writes-list
 
 -- ---- what a place holds, signs
 
-pub part-determined : DeterminedAs (λ κs r e. r.now) hands.Post
-part-determined = by-sight _ (λ κs a. bytesIn a.0.now (place_of a.1.0))
+pub part_determined : DeterminedAs (λ κs r e. r.now) hands.Post
+part_determined = by_sight _ (λ κs a. bytes_in a.0.now (place_of a.1.0))
 
-pub signed16-determined : Determined signs16.Post
-signed16-determined = by-equation (λ κs a. to_z w16 a.0)
+pub signed16_determined : Determined signs16.Post
+signed16_determined = by_equation (λ κs a. to_z w16 a.0)
 
-pub signed32-determined : Determined signs32.Post
-signed32-determined = by-equation (λ κs a. to_z w32 a.0)
+pub signed32_determined : Determined signs32.Post
+signed32_determined = by_equation (λ κs a. to_z w32 a.0)
 
-pub signed64-determined : Determined signs64.Post
-signed64-determined = by-equation (λ κs a. to_z w64 a.0)
+pub signed64_determined : Determined signs64.Post
+signed64_determined = by_equation (λ κs a. to_z w64 a.0)
 
-pub bits16-determined : Determined bits16.Post
-bits16-determined = by-equation (λ κs a. of_z w16 a.0)
+pub bits16_determined : Determined bits16.Post
+bits16_determined = by_equation (λ κs a. of_z w16 a.0)
 
-pub bits32-determined : Determined bits32.Post
-bits32-determined = by-equation (λ κs a. of_z w32 a.0)
+pub bits32_determined : Determined bits32.Post
+bits32_determined = by_equation (λ κs a. of_z w32 a.0)
 
-pub bits64-determined : Determined bits64.Post
-bits64-determined = by-equation (λ κs a. of_z w64 a.0)
+pub bits64_determined : Determined bits64.Post
+bits64_determined = by_equation (λ κs a. of_z w64 a.0)
 
 -- ---- readers
 
 -- of a notation's reader: the bytes are lent first, then the position is told
-by-reading {ℓ} :
+by_reading {ℓ} :
     {Lifetimes : Type ℓ} {Others Exit : Lifetimes → Type 0} {Value Content Read : Type 0} {meaning : Read → Answer Value}
     (n : Notation Value Content) → Tells meaning
     → Determined {Arguments = λ κs. Bor (List ℕ) × (ℕ × Others κs)} {Exit = Exit} (λ κs a r e. meaning r ≡ n.read a.0.now a.1.0)
-by-reading n tells = by-meaning tells (λ κs a. n.read a.0.now a.1.0)
+by_reading n tells = by_meaning tells (λ κs a. n.read a.0.now a.1.0)
 
-pub read-byte-determined : Determined reads_byte.Post
-read-byte-determined = by-reading byte byte-told
+pub read_byte_determined : Determined reads_byte.Post
+read_byte_determined = by_reading byte byte_told
 
-pub read-short-determined : Determined reads_short.Post
-read-short-determined = by-reading short short-told
+pub read_short_determined : Determined reads_short.Post
+read_short_determined = by_reading short short_told
 
-pub read-int-determined : Determined Reads-Int.Post
-read-int-determined = by-reading int int-told
+pub read_int_determined : Determined Reads-Int.Post
+read_int_determined = by_reading int int_told
 
-pub read-long-determined : Determined reads-long.Post
-read-long-determined = by-reading long long-told
+pub read_long_determined : Determined reads-long.Post
+read_long_determined = by_reading long long_told
 
-pub read-uuid-determined : Determined reads-uuid.Post
-read-uuid-determined = by-reading uuid part-told
+pub read_uuid_determined : Determined reads-uuid.Post
+read_uuid_determined = by_reading uuid part_told
 
-pub read-short-bytes-determined : Determined reads-short-bytes.Post
-read-short-bytes-determined = by-reading shortBytes part-told
+pub read_short_bytes_determined : Determined reads-short-bytes.Post
+read_short_bytes_determined = by_reading short_bytes part_told
 
-pub read-string-determined : Determined reads-string.Post
-read-string-determined = by-reading string part-told
+pub read_string_determined : Determined reads-string.Post
+read_string_determined = by_reading string part_told
 
-pub read-long-string-determined : Determined reads-long-string.Post
-read-long-string-determined = by-reading longString part-told
+pub read_long_string_determined : Determined reads-long-string.Post
+read_long_string_determined = by_reading long_string part_told
 
-pub read-bytes-determined : Determined Reads-bytes.Post
-read-bytes-determined = by-reading bytes bytes-told
+pub read_bytes_determined : Determined Reads-bytes.Post
+read_bytes_determined = by_reading bytes bytes_told
 
-pub read-string-list-determined : Determined reads-list.Post
-read-string-list-determined = by-reading stringList strings-told
+pub read_string_list_determined : Determined reads-list.Post
+read_string_list_determined = by_reading string_list strings_told
 
-pub next-string-determined : Determined steps.Post
-next-string-determined = by-meaning walked-told (λ κs a. stepAt a.0.now a.1.0.left a.1.0.at)
+pub next_string_determined : Determined steps.Post
+next_string_determined = by_meaning walked_told (λ κs a. step_at a.0.now a.1.0.left a.1.0.at)
 
 -- ---- writers
 
@@ -131,79 +131,79 @@ abbrev pub DeterminedWriter {ℓ} :
     → ((κs : Lifetimes) → Bor (List ℕ) × Others κs → Written → Bor (List ℕ) × OthersLeft κs → Type 0) → Type ℓ
 DeterminedWriter Ensures = DeterminedAs {Seen = Outcome} (λ κs r e. (r, e.0.now)) Ensures
 
-pub by-wrote {ℓ} :
+pub by_wrote {ℓ} :
     {Lifetimes : Type ℓ} {Others OthersLeft : Lifetimes → Type 0}
     (check : (κs : Lifetimes) → Others κs → Check) (at : (κs : Lifetimes) → Others κs → ℕ) (bs : (κs : Lifetimes) → Others κs → List ℕ)
-    → DeterminedWriter {OthersLeft = OthersLeft} (λ κs a r e. Wrote (check κs a.1) a.0.now (at κs a.1) (bs κs a.1) (paperWritten r) e.0.now)
-by-wrote check at bs =
+    → DeterminedWriter {OthersLeft = OthersLeft} (λ κs a r e. Wrote (check κs a.1) a.0.now (at κs a.1) (bs κs a.1) (paper_written r) e.0.now)
+by_wrote check at bs =
     record {
       same = λ κs a r s e f p q.
-          ap₂ pair (told-apart written-told r s (p.says ∙ sym q.says)) (p.leaves ∙ sym q.leaves);
+          ap₂ pair (told_apart written_told r s (p.says ∙ sym q.says)) (p.leaves ∙ sym q.leaves);
     }
   where
     pair : Written → List ℕ → Outcome
     pair r left = (r, left)
 
 -- of a notation's writer: behind the output stands the position, and behind that what is written
-by-writing {ℓ} :
+by_writing {ℓ} :
     {Lifetimes : Type ℓ} {Given OthersLeft : Lifetimes → Type 0} {Value Content : Type 0}
     (n : Notation Value Content) (content : (κs : Lifetimes) → Given κs → Content)
     → DeterminedWriter {Others = λ κs. ℕ × Given κs} {OthersLeft = OthersLeft}
-    (λ κs a r e. Wrote (n.check (content κs a.1.1)) a.0.now a.1.0 (n.written (content κs a.1.1)) (paperWritten r) e.0.now)
-by-writing n content = by-wrote (λ κs v. n.check (content κs v.1)) (λ κs v. v.0) (λ κs v. n.written (content κs v.1))
+    (λ κs a r e. Wrote (n.check (content κs a.1.1)) a.0.now a.1.0 (n.written (content κs a.1.1)) (paper_written r) e.0.now)
+by_writing n content = by_wrote (λ κs v. n.check (content κs v.1)) (λ κs v. v.0) (λ κs v. n.written (content κs v.1))
 
-pub write-byte-determined : DeterminedWriter writes_byte.Post
-write-byte-determined = by-writing byte (λ κs v. v.0)
+pub write_byte_determined : DeterminedWriter writes_byte.Post
+write_byte_determined = by_writing byte (λ κs v. v.0)
 
-pub write-short-determined : DeterminedWriter writes_short.Post
-write-short-determined = by-writing short (λ κs v. v.0)
+pub write_short_determined : DeterminedWriter writes_short.Post
+write_short_determined = by_writing short (λ κs v. v.0)
 
-pub write-int-determined : DeterminedWriter writes-int.Post
-write-int-determined = by-writing int (λ κs v. v.0)
+pub write_int_determined : DeterminedWriter writes-int.Post
+write_int_determined = by_writing int (λ κs v. v.0)
 
-pub write-long-determined : DeterminedWriter writes-long.Post
-write-long-determined = by-writing long (λ κs v. v.0)
+pub write_long_determined : DeterminedWriter writes-long.Post
+write_long_determined = by_writing long (λ κs v. v.0)
 
-pub write-uuid-determined : DeterminedWriter writes-uuid.Post
-write-uuid-determined = by-writing uuid (λ κs v. v.0)
+pub write_uuid_determined : DeterminedWriter writes-uuid.Post
+write_uuid_determined = by_writing uuid (λ κs v. v.0)
 
-pub write-short-bytes-determined : DeterminedWriter writes-short-bytes.Post
-write-short-bytes-determined = by-writing shortBytes (λ κs v. v.0.now)
+pub write_short_bytes_determined : DeterminedWriter writes-short-bytes.Post
+write_short_bytes_determined = by_writing short_bytes (λ κs v. v.0.now)
 
-pub write-string-determined : DeterminedWriter writes-string.Post
-write-string-determined = by-writing string (λ κs v. v.0.now)
+pub write_string_determined : DeterminedWriter writes-string.Post
+write_string_determined = by_writing string (λ κs v. v.0.now)
 
-pub write-long-string-determined : DeterminedWriter writes-long-string.Post
-write-long-string-determined = by-writing longString (λ κs v. v.0.now)
+pub write_long_string_determined : DeterminedWriter writes-long-string.Post
+write_long_string_determined = by_writing long_string (λ κs v. v.0.now)
 
-pub write-bytes-determined : DeterminedWriter writes_bytes.Post
-write-bytes-determined = by-writing bytes (λ κs v. some v.0.now)
+pub write_bytes_determined : DeterminedWriter writes_bytes.Post
+write_bytes_determined = by_writing bytes (λ κs v. some v.0.now)
 
-pub write-null-determined : DeterminedWriter writes-null.Post
-write-null-determined = by-writing bytes (λ κs v. none)
+pub write_null_determined : DeterminedWriter writes-null.Post
+write_null_determined = by_writing bytes (λ κs v. none)
 
-pub write-string-list-determined : DeterminedWriter writes-list.Post
-write-string-list-determined = by-writing stringList (λ κs v. (v.0.now, v.1.0.now))
+pub write_string_list_determined : DeterminedWriter writes-list.Post
+write_string_list_determined = by_writing string_list (λ κs v. (v.0.now, v.1.0.now))
 
 -- ---- what the crates share: of `room` and `read_number` the first half says all
 
-pub room-determined : Determined has_room.Post
-room-determined = record { same = λ κs a r s e f p q. p.0 ∙ sym q.0 }
+pub room_determined : Determined has_room.Post
+room_determined = record { same = λ κs a r s e f p q. p.0 ∙ sym q.0 }
 
-pub read-number-determined : Determined reads-number.Post
-read-number-determined = record { same = λ κs a r s e f p q. p.0 ∙ sym q.0 }
+pub read_number_determined : Determined reads-number.Post
+read_number_determined = record { same = λ κs a r s e f p q. p.0 ∙ sym q.0 }
 
-pub put-number-determined : DeterminedAs (λ κs r e. e.0.now) puts-number.Post
-put-number-determined = by-sight _ (λ κs a. put a.0.now a.1.0 (digits a.1.1.0 a.1.1.1.0))
+pub put_number_determined : DeterminedAs (λ κs r e. e.0.now) puts-number.Post
+put_number_determined = by_sight _ (λ κs a. put a.0.now a.1.0 (digits a.1.1.0 a.1.1.1.0))
 
-pub put-bytes-determined : DeterminedAs (λ κs r e. e.0.now) puts-bytes.Post
-put-bytes-determined = by-sight _ (λ κs a. put a.0.now a.1.0 a.1.1.0.now)
+pub put_bytes_determined : DeterminedAs (λ κs r e. e.0.now) puts-bytes.Post
+put_bytes_determined = by_sight _ (λ κs a. put a.0.now a.1.0 a.1.1.0.now)
 
-pub put-counted-determined : DeterminedAs (λ κs r e. e.0.now) puts-counted.Post
-put-counted-determined = by-sight _ (λ κs a. put a.0.now a.1.0 (counted a.1.1.0 a.1.1.1.0.now))
+pub put_counted_determined : DeterminedAs (λ κs r e. e.0.now) puts-counted.Post
+put_counted_determined = by_sight _ (λ κs a. put a.0.now a.1.0 (counted a.1.1.0 a.1.1.1.0.now))
 
-pub check-list-determined : Determined checks-list.Post
-check-list-determined = by-meaning writable-told (λ κs a. listCheck a.0.now a.1.0.now)
+pub check_list_determined : Determined checks-list.Post
+check_list_determined = by_meaning writable_told (λ κs a. list_check a.0.now a.1.0.now)
 
-pub put-list-determined : DeterminedAs (λ κs r e. e.0.now) puts-list.Post
-put-list-determined = by-sight _ (λ κs a. put a.0.now a.1.0 (listBytes (cutBy a.1.1.0.now a.1.1.1.0.now)))
+pub put_list_determined : DeterminedAs (λ κs r e. e.0.now) puts-list.Post
+put_list_determined = by_sight _ (λ κs a. put a.0.now a.1.0 (list_bytes (cut_by a.1.1.0.now a.1.1.1.0.now)))

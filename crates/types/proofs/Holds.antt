@@ -8,14 +8,14 @@ use lib.Dec.{leb}
 use lib.ListN.{length, take, drop, length-append, length-drop, take-append-drop}
 use lib.Seq.{take-take, take-add, take-append_seam, drop-append_seam, take-append-le, drop-append-le, drop_at, drop-drop, length-take-le}
 use borrow.Author.Tests.{le-leb, leb-true}
-use Rattle.refusal.specs.Refusal.{outputTooShort}
+use Rattle.refusal.specs.Refusal.{output_too_short}
 use Rattle.types.specs.Answer.{Answer, got, refused}
 use Rattle.types.specs.Number.{part}
-use Rattle.types.specs.Read.{place, bytesIn}
+use Rattle.types.specs.Read.{place, bytes_in}
 use Rattle.types.specs.Write.{put, Check, fine, against, written, output, Wrote}
 use Rattle.types.specs.ThereAndBack.{Holds, Stands}
-use Rattle.types.proofs.Put.{length-put}
-use Rattle.types.proofs.Reading.{bytes-there}
+use Rattle.types.proofs.Put.{length_put}
+use Rattle.types.proofs.Reading.{bytes_there}
 
 -- whatever stands around
 pub holds_at : (p bs q : List ℕ) → Holds (p ++ (bs ++ q)) (length p) bs
@@ -38,14 +38,14 @@ holds_more s q at bs h =
     }
 
 -- n bytes that a list has are held by it
-pub holds-part : (s : List ℕ) (at n : ℕ) → at + n ≤ length s → Holds s at (part s at n)
-holds-part s at n h =
+pub holds_part : (s : List ℕ) (at n : ℕ) → at + n ≤ length s → Holds s at (part s at n)
+holds_part s at n h =
     let l : length (part s at n) ≡ n = length-take-le n (drop at s) (simp length-drop (omega arith)) in
     record { room = omega arith; is = ap (λ (k : ℕ). part s at k) l }
 
 -- the bytes of a place that holds them
-pub holds-bytes : (s : List ℕ) (at : ℕ) (bs : List ℕ) → Holds s at bs → bytesIn s (place at (length bs)) ≡ bs
-holds-bytes s at bs h = bytes-there (length bs) s at (le-leb (at + length bs) (length s) h.room) ∙ h.is
+pub holds_bytes : (s : List ℕ) (at : ℕ) (bs : List ℕ) → Holds s at bs → bytes_in s (place at (length bs)) ≡ bs
+holds_bytes s at bs h = bytes_there (length bs) s at (le-leb (at + length bs) (length s) h.room) ∙ h.is
 
 -- ---- one behind the other
 
@@ -54,8 +54,8 @@ module _ (s : List ℕ) (at : ℕ) (a b : List ℕ) where
     both : part s at (length a + length b) ≡ a ++ b
     both = ap (λ (k : ℕ). part s at k) (sym (length-append a b)) ∙ h.is
 
-    pub holds-left : Holds s at a
-    holds-left =
+    pub holds_left : Holds s at a
+    holds_left =
         let l : length (a ++ b) ≡ length a + length b = length-append a b in
         let r : at + length (a ++ b) ≤ length s = h.room in
         let le : length a ≤ length a + length b = omega arith in
@@ -64,12 +64,12 @@ module _ (s : List ℕ) (at : ℕ) (a b : List ℕ) where
           is = sym (take-take (length a) (length a + length b) (drop at s) le) ∙ ap (take (length a)) both ∙ take-append_seam a b;
         }
 
-    pub holds-right : Holds s (at + length a) b
-    holds-right =
+    pub holds_right : Holds s (at + length a) b
+    holds_right =
         let l : length (a ++ b) ≡ length a + length b = length-append a b in
         let r : at + length (a ++ b) ≤ length s = h.room in
         let e : a ++ take (length b) (drop (length a) (drop at s)) ≡ a ++ b =
-        ap (λ (x : List ℕ). x ++ take (length b) (drop (length a) (drop at s))) (sym holds-left.is)
+        ap (λ (x : List ℕ). x ++ take (length b) (drop (length a) (drop at s))) (sym holds_left.is)
         ∙ sym (take-add (length a) (length b) (drop at s))
         ∙ both
         in
@@ -82,8 +82,8 @@ module _ (s : List ℕ) (at : ℕ) (a b : List ℕ) where
               ∙ drop-append_seam a b;
         }
 
-  pub holds-join : Holds s at a → Holds s (at + length a) b → Holds s at (a ++ b)
-  holds-join h k =
+  pub holds_join : Holds s at a → Holds s (at + length a) b → Holds s at (a ++ b)
+  holds_join h k =
       let l : length (a ++ b) ≡ length a + length b = length-append a b in
       let r : at + length a + length b ≤ length s = k.room in
       record {
@@ -97,11 +97,11 @@ module _ (s : List ℕ) (at : ℕ) (a b : List ℕ) where
 
 -- ---- what a writer leaves
 
-pub holds-put : (out : List ℕ) (at : ℕ) (bs : List ℕ) → at + length bs ≤ length out → Holds (put out at bs) at bs
+pub holds_put : (out : List ℕ) (at : ℕ) (bs : List ℕ) → at + length bs ≤ length out → Holds (put out at bs) at bs
 unfolding put
-holds-put out at bs h =
+holds_put out at bs h =
     let k : at ≤ length out = omega arith in
-    let l : length (put out at bs) ≡ length out = length-put out at bs h in
+    let l : length (put out at bs) ≡ length out = length_put out at bs h in
     let d : drop at (put out at bs) ≡ bs ++ drop (at + length bs) out =
     ap (drop at) (append_assoc (take at out) bs (drop (at + length bs) out)) ∙ drop_at (take at out) (bs ++ drop (at + length bs) out) at (length-take-le at out k)
     in
@@ -115,23 +115,23 @@ pub accepted : (check : Check) {out : List ℕ} {at : ℕ} {bs left : List ℕ} 
 accepted (against why) w = let z : ◌≡◌ {A = ℕ} 0 1 = cc w.says in let f : ⊥ = omega arith in absurd f
 accepted fine {out} {at} {bs} {left} {next} w = go (leb (at + length bs) (length out)) refl w.says w.leaves
   where
-    go : (t : Bool) → leb (at + length bs) (length out) ≡ t → got (tt {0}) next ≡ cond t (got (tt {0}) (at + length bs)) (refused outputTooShort) → left ≡ cond t (put out at bs) out
+    go : (t : Bool) → leb (at + length bs) (length out) ≡ t → got (tt {0}) next ≡ cond t (got (tt {0}) (at + length bs)) (refused output_too_short) → left ≡ cond t (put out at bs) out
         → Stands fine at bs left next
     go true p e q =
         let end : next ≡ at + length bs = cc in
         record {
           nothing = refl;
-          holds = subst (λ (l : List ℕ). Holds l at bs) (sym q) (holds-put out at bs (leb-true (at + length bs) (length out) p));
+          holds = subst (λ (l : List ℕ). Holds l at bs) (sym q) (holds_put out at bs (leb-true (at + length bs) (length out) p));
           end = end;
         }
     go false p e q = let z : ◌≡◌ {A = ℕ} 0 1 = cc in let f : ⊥ = omega arith in absurd f
 
 -- what may be written is, where there is room
-pub wrote-there : {check : Check} {out : List ℕ} {at : ℕ} {bs : List ℕ} → check ≡ fine → at + length bs ≤ length out
+pub wrote_there : {check : Check} {out : List ℕ} {at : ℕ} {bs : List ℕ} → check ≡ fine → at + length bs ≤ length out
     → {answer : Answer Unit} {left : List ℕ} → Wrote check out at bs answer left → (answer ≡ got (tt {0}) (at + length bs)) × (left ≡ put out at bs)
-wrote-there {check} {out} {at} {bs} c h w =
+wrote_there {check} {out} {at} {bs} c h w =
     let f : leb (at + length bs) (length out) ≡ true = le-leb (at + length bs) (length out) h in (
-      w.says ∙ ap (λ (k : Check). written k out at bs) c ∙ ap (λ (t : Bool). cond t (got (tt {0}) (at + length bs)) (refused outputTooShort)) f,
+      w.says ∙ ap (λ (k : Check). written k out at bs) c ∙ ap (λ (t : Bool). cond t (got (tt {0}) (at + length bs)) (refused output_too_short)) f,
       w.leaves ∙ ap (λ (k : Check). output k out at bs) c ∙ ap (λ (t : Bool). cond t (put out at bs) out) f,
     )
 
@@ -145,8 +145,8 @@ put_same s at bs h =
     ∙ ap (λ (l : List ℕ). take at s ++ l) (take-append-drop (length bs) (drop at s))
     ∙ take-append-drop at s
 
-pub written-again : {check : Check} {at : ℕ} {bs s : List ℕ} {next : ℕ} → Stands check at bs s next
+pub written_again : {check : Check} {at : ℕ} {bs s : List ℕ} {next : ℕ} → Stands check at bs s next
     → {answer : Answer Unit} {left : List ℕ} → Wrote check s at bs answer left → (answer ≡ got (tt {0}) next) × (left ≡ s)
-written-again {check} {at} {bs} {s} {next} st w =
-    let r = wrote-there st.nothing st.holds.room w in
+written_again {check} {at} {bs} {s} {next} st w =
+    let r = wrote_there st.nothing st.holds.room w in
     (r.0 ∙ ap (got (tt {0})) (sym st.end), r.1 ∙ put_same s at bs st.holds)

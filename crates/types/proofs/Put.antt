@@ -9,36 +9,36 @@ use native.Mathlib.Nat.{add_assoc, not-suc-le-zero, add-zero}
 use lib.Dec.{leb}
 use lib.ListN.{length, take, drop, set, length-append, length-drop, take-append-drop}
 use lib.Seq.{length-take-le, take_at, drop_at, drop-append-add, drop-drop, take-set-le, set_split, append_snoc, take-length, paste}
-use Rattle.refusal.specs.Refusal.{Refusal, outputTooShort}
+use Rattle.refusal.specs.Refusal.{Refusal, output_too_short}
 use Rattle.types.specs.Answer.{Answer, got, refused}
 use Rattle.types.specs.Number.{digits}
 use Rattle.types.specs.Write.{put, counted, Check, fine, against, demand, Wrote}
 use Rattle.types.proofs.BigEndian.{length_digits}
 
-pub put-none : (out : List ℕ) (at : ℕ) → put out at [] ≡ out
+pub put_none : (out : List ℕ) (at : ℕ) → put out at [] ≡ out
 unfolding put
-put-none out at =
+put_none out at =
     ap (λ (k : ℕ). take at out ++ [] ++ drop k out) (add-zero at)
     ∙ ap (λ (l : List ℕ). l ++ drop at out) (append-nil (take at out))
     ∙ take-append-drop at out
 
 module _ (out : List ℕ) (at : ℕ) (a : List ℕ) where
   -- what stands before the end of what was written
-  pub length-to-end : at ≤ length out → length (take at out ++ a) ≡ at + length a
-  length-to-end h = length-append (take at out) a ∙ ap (λ (k : ℕ). k + length a) (length-take-le at out h)
+  pub length_to_end : at ≤ length out → length (take at out ++ a) ≡ at + length a
+  length_to_end h = length-append (take at out) a ∙ ap (λ (k : ℕ). k + length a) (length-take-le at out h)
 
-  pub length-put : at + length a ≤ length out → length (put out at a) ≡ length out
+  pub length_put : at + length a ≤ length out → length (put out at a) ≡ length out
   unfolding put
-  length-put h =
+  length_put h =
       let h' : at ≤ length out = omega arith in
       simp (length-append, length-drop, length-take-le at out) (omega arith)
 
   -- one after the other
-  pub put-put : (b : List ℕ) → at + length a + length b ≤ length out → put (put out at a) (at + length a) b ≡ put out at (a ++ b)
+  pub put_put : (b : List ℕ) → at + length a + length b ≤ length out → put (put out at a) (at + length a) b ≡ put out at (a ++ b)
   unfolding put
-  put-put b h =
+  put_put b h =
       let h' : at ≤ length out = omega arith in
-      let f : length (take at out ++ a) ≡ at + length a = length-to-end h' in
+      let f : length (take at out ++ a) ≡ at + length a = length_to_end h' in
       let t : take (at + length a) (put out at a) ≡ take at out ++ a = take_at (take at out ++ a) (drop (at + length a) out) (at + length a) f in
       let d : drop (at + length a + length b) (put out at a) ≡ drop (at + length (a ++ b)) out =
       ap (λ (k : ℕ). drop (k + length b) (put out at a)) (sym f)
@@ -49,9 +49,9 @@ module _ (out : List ℕ) (at : ℕ) (a : List ℕ) where
       ap₂ (λ (x y : List ℕ). x ++ b ++ y) t d ∙ ap (λ (x : List ℕ). x ++ drop (at + length (a ++ b)) out) (append_assoc (take at out) a b)
 
   -- the last byte first
-  put-snoc : (b : ℕ) → at + length a < length out → put (set out (at + length a) b) at a ≡ put out at (a ++ (b ∷ []))
+  put_snoc : (b : ℕ) → at + length a < length out → put (set out (at + length a) b) at a ≡ put out at (a ++ (b ∷ []))
   unfolding put
-  put-snoc b h =
+  put_snoc b h =
       let i : ℕ = at + length a in
       let h' : at ≤ i = omega arith in
       let k : i ≤ length out = omega arith in
@@ -68,33 +68,33 @@ module _ (out : List ℕ) (at : ℕ) (a : List ℕ) where
 pub put_then : (out : List ℕ) (at : ℕ) (a b : List ℕ) (k : ℕ) → length a ≡ k → at + k + length b ≤ length out
     → {m l : List ℕ} → m ≡ put out at a → l ≡ put m (at + k) b → l ≡ put out at (a ++ b)
 put_then out at a b k is h p q =
-    q ∙ ap₂ (λ (x : List ℕ) (j : ℕ). put x (at + j) b) p (sym is) ∙ put-put out at a b (omega arith)
+    q ∙ ap₂ (λ (x : List ℕ) (j : ℕ). put x (at + j) b) p (sym is) ∙ put_put out at a b (omega arith)
 
 -- a number's last byte first
-pub put-digit : (out : List ℕ) (at n x : ℕ) → 0 < n → at + n ≤ length out
+pub put_digit : (out : List ℕ) (at n x : ℕ) → 0 < n → at + n ≤ length out
     → put (set out (at + (n - 1)) (x % 256)) at (digits (n - 1) (x / 256)) ≡ put out at (digits n x)
 unfolding digits
-put-digit out at zero x h k = absurd (not-suc-le-zero h)
-put-digit out at (suc n) x h k =
+put_digit out at zero x h k = absurd (not-suc-le-zero h)
+put_digit out at (suc n) x h k =
     rw sub-one
     (subst (λ (j : ℕ). put (set out (at + j) (x % 256)) at (digits n (x / 256)) ≡ put out at (digits n (x / 256) ++ (x % 256 ∷ [])))
     (length_digits n (x / 256))
-    (put-snoc out at (digits n (x / 256)) (x % 256) (omega (arith, length_digits n (x / 256)))))
+    (put_snoc out at (digits n (x / 256)) (x % 256) (omega (arith, length_digits n (x / 256)))))
 
 -- no byte of a number is left
-pub put-zero : (out : List ℕ) (at n x : ℕ) → n ≤ 0 → out ≡ put out at (digits n x)
+pub put_zero : (out : List ℕ) (at n x : ℕ) → n ≤ 0 → out ≡ put out at (digits n x)
 unfolding digits
-put-zero out at zero x h = sym (put-none out at)
-put-zero out at (suc n) x h = absurd (not-suc-le-zero h)
+put_zero out at zero x h = sym (put_none out at)
+put_zero out at (suc n) x h = absurd (not-suc-le-zero h)
 
 -- a copy of all of a list
 pub paste_all : (out : List ℕ) (at : ℕ) (s : List ℕ) → paste out at s (length s) ≡ put out at s
 unfolding put
 paste_all out at s = ap (λ (l : List ℕ). take at out ++ l ++ drop (at + length s) out) (take-length s)
 
-pub length-counted : (n : ℕ) (t : List ℕ) → length (counted n t) ≡ n + length t
+pub length_counted : (n : ℕ) (t : List ℕ) → length (counted n t) ≡ n + length t
 unfolding counted
-length-counted n t = length-append (digits n (length t)) t ∙ ap (λ (k : ℕ). k + length t) (length_digits n (length t))
+length_counted n t = length-append (digits n (length t)) t ∙ ap (λ (k : ℕ). k + length t) (length_digits n (length t))
 
 -- ---- what a writer says and leaves
 
@@ -107,18 +107,18 @@ denied why rest e = ap (λ (t : Bool). demand t why rest) e
 
 module _ (out : List ℕ) (at : ℕ) (bs : List ℕ) (n : ℕ) (is : length bs ≡ n) where
   -- there is room
-  pub wrote-all : {left : List ℕ} → leb (at + n) (length out) ≡ true → left ≡ put out at bs → Wrote fine out at bs (got tt (at + n)) left
-  wrote-all h e = record { says = simp (is, h); leaves = simp (is, h) e }
+  pub wrote_all : {left : List ℕ} → leb (at + n) (length out) ≡ true → left ≡ put out at bs → Wrote fine out at bs (got tt (at + n)) left
+  wrote_all h e = record { says = simp (is, h); leaves = simp (is, h) e }
 
   -- there is none
-  pub wrote_none : leb (at + n) (length out) ≡ false → Wrote fine out at bs (refused outputTooShort) out
+  pub wrote_none : leb (at + n) (length out) ≡ false → Wrote fine out at bs (refused output_too_short) out
   wrote_none h = record { says = simp (is, h); leaves = simp (is, h) }
 
 module _ {check : Check} {out : List ℕ} {at : ℕ} {bs : List ℕ} where
   -- the check has passed
-  pub wrote-fine : {answer : Answer Unit} {left : List ℕ} → check ≡ fine → Wrote fine out at bs answer left → Wrote check out at bs answer left
-  wrote-fine e w = rw e w
+  pub wrote_fine : {answer : Answer Unit} {left : List ℕ} → check ≡ fine → Wrote fine out at bs answer left → Wrote check out at bs answer left
+  wrote_fine e w = rw e w
 
   -- the check has not
-  pub wrote-against : {why : Refusal} → check ≡ against why → Wrote check out at bs (refused why) out
-  wrote-against h = rw h (record { says = refl; leaves = refl })
+  pub wrote_against : {why : Refusal} → check ≡ against why → Wrote check out at bs (refused why) out
+  wrote_against h = rw h (record { says = refl; leaves = refl })

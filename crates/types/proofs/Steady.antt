@@ -15,32 +15,32 @@ use lib.Seq.{take-take, take-add, take-append-le, take_all, drop_at, length-take
 use mir.Syntax.{Width, w32, w64}
 use mir.Val.{to_z}
 use borrow.Author.Tests.{le-leb, leb-true}
-use Rattle.refusal.specs.Refusal.{Refusal, negativeLength, pastEnd, notUtf8}
+use Rattle.refusal.specs.Refusal.{Refusal, negative_length, past_end, not_utf8}
 use Rattle.types.specs.Answer.{Answer, got, refused, and_then}
 use Rattle.types.specs.Number.{be, part}
 use Rattle.utf8.specs.Utf8.{utf8}
-use Rattle.types.specs.Read.{Place, place, number_at, signedAt, byte_at, short_at, intAt, longAt, run_at, textAt, uuidAt, natural, countAt, longText, nullableRun, shortBytesAt, stringAt, longStringAt, bytes_at, strings, stringsAt, listed, stringListAt}
+use Rattle.types.specs.Read.{Place, place, number_at, signed_at, byte_at, short_at, int_at, long_at, run_at, text_at, uuid_at, natural, count_at, long_text, nullable_run, short_bytes_at, string_at, long_string_at, bytes_at, strings, strings_at, listed, string_list_at}
 use Rattle.types.specs.Steady.{Local, Steady}
-use Rattle.types.proofs.Reading.{then-got, then-refused, number_read, run-read, text-read}
-use Rattle.types.proofs.Found.{got-refused, got-value, got-next, same-refusal, behind}
+use Rattle.types.proofs.Reading.{then_got, then_refused, number_read, run_read, text_read}
+use Rattle.types.proofs.Found.{got_refused, got_value, got_next, same_refusal, behind}
 
 -- ---- parts
 
 -- a part of the bytes before a position is a part of them
-part-front : (s : List ℕ) (at n : ℕ) → at ≤ length s → drop at (take (at + n) s) ≡ part s at n
-part-front s at n h = ap (drop at) (take-add at n s) ∙ drop_at (take at s) (part s at n) at (length-take-le at s h)
+part_front : (s : List ℕ) (at n : ℕ) → at ≤ length s → drop at (take (at + n) s) ≡ part s at n
+part_front s at n h = ap (drop at) (take-add at n s) ∙ drop_at (take at s) (part s at n) at (length-take-le at s h)
 
 pub part_same : (s t : List ℕ) (at n : ℕ) → at + n ≤ length s → at + n ≤ length t → take (at + n) t ≡ take (at + n) s → part t at n ≡ part s at n
-part_same s t at n h k e = sym (part-front t at n (omega arith)) ∙ ap (drop at) e ∙ part-front s at n (omega arith)
+part_same s t at n h k e = sym (part_front t at n (omega arith)) ∙ ap (drop at) e ∙ part_front s at n (omega arith)
 
-part-more : (s q : List ℕ) (at n : ℕ) → at + n ≤ length s → part (s ++ q) at n ≡ part s at n
-part-more s q at n h =
+part_more : (s q : List ℕ) (at n : ℕ) → at + n ≤ length s → part (s ++ q) at n ≡ part s at n
+part_more s q at n h =
     let l : length (s ++ q) ≡ length s + length q = length-append s q in
     part_same s (s ++ q) at n h (omega arith) (take-append-le (at + n) s q h)
 
 -- the first k bytes are at most k, and at most as many as there are
-length-take-most : (k : ℕ) (s : List ℕ) → (length (take k s) ≤ k) × (length (take k s) ≤ length s)
-length-take-most k s =
+length_take_most : (k : ℕ) (s : List ℕ) → (length (take k s) ≤ k) × (length (take k s) ≤ length s)
+length_take_most k s =
     elim (dec_le k (length s)) [
       | yes h ↦ let e : length (take k s) ≡ k = length-take-le k s h in omega arith
       | no h ↦ let e : length (take k s) ≡ length s = ap length (take_all k s (le_of_lt (lt_of_not-le h))) in let j : length s < k = lt_of_not-le h in omega arith
@@ -64,135 +64,135 @@ module _ {A : Type 0} (read : List ℕ → ℕ → Answer A) (steady : Steady re
       steady.local.same s (take next s ++ q) at e
       (take-append-le next (take next s) q (omega arith) ∙ take-take next next s (le_refl next)) (omega arith)
 
-  pub appended-refused : {e : Refusal} → read s at ≡ refused e → (e ≡ pastEnd → ⊥) → (q : List ℕ) → read (s ++ q) at ≡ refused e
-  appended-refused p n q = ⊎_elim (λ t. absurd (n t)) (λ r. r) (steady.local.firm s q at p)
+  pub appended_refused : {e : Refusal} → read s at ≡ refused e → (e ≡ past_end → ⊥) → (q : List ℕ) → read (s ++ q) at ≡ refused e
+  appended_refused p n q = ⊎_elim (λ t. absurd (n t)) (λ r. r) (steady.local.firm s q at p)
 
   -- the first k bytes alone
   front : (k : ℕ) → take k s ++ drop k s ≡ s
   front k = take-append-drop k s
 
-  same-front : (k : ℕ) {v : A} {next : ℕ} → read (take k s) at ≡ got v next → (read s at ≡ got v next) × (next ≤ k)
-  same-front k {next = next} e =
+  same_front : (k : ℕ) {v : A} {next : ℕ} → read (take k s) at ≡ got v next → (read s at ≡ got v next) × (next ≤ k)
+  same_front k {next = next} e =
       let h : next ≤ length (take k s) = steady.bounded (take k s) at e in
-      let b = length-take-most k s in
+      let b = length_take_most k s in
       let l : next ≤ k = omega (arith, b.0) in
       let m : next ≤ length s = omega (arith, b.1) in
       (steady.local.same (take k s) s at e (sym (take-take next k s l)) m, l)
 
   -- some of what was read is cut off
-  pub cut_off : {v : A} {next : ℕ} → read s at ≡ got v next → (k : ℕ) → k < next → read (take k s) at ≡ refused pastEnd
+  pub cut_off : {v : A} {next : ℕ} → read s at ≡ got v next → (k : ℕ) → k < next → read (take k s) at ≡ refused past_end
   cut_off {v} {next} e k h = by_answer (read (take k s) at) refl
     where
-      by_answer : (a : Answer A) → read (take k s) at ≡ a → a ≡ refused pastEnd
+      by_answer : (a : Answer A) → read (take k s) at ≡ a → a ≡ refused past_end
       by_answer (got w m) p =
-          let f = same-front k p in
-          let z : m ≡ next = got-next (sym f.0 ∙ e) in
+          let f = same_front k p in
+          let z : m ≡ next = got_next (sym f.0 ∙ e) in
           let b : ⊥ = omega (arith, f.1) in
           absurd b
       by_answer (refused d) p =
-          ⊎_elim (λ t. ap refused t) (λ r. absurd (got-refused (sym r ∙ ap (λ (x : List ℕ). read x at) (front k) ∙ e))) (steady.local.firm (take k s) (drop k s) at p)
+          ⊎_elim (λ t. ap refused t) (λ r. absurd (got_refused (sym r ∙ ap (λ (x : List ℕ). read x at) (front k) ∙ e))) (steady.local.firm (take k s) (drop k s) at p)
 
   -- and where the whole is refused, what is left is refused with 12 or with the same refusal
-  pub cut-off-refused : {e : Refusal} → read s at ≡ refused e → (k : ℕ) → (read (take k s) at ≡ refused pastEnd) ⊎ (read (take k s) at ≡ refused e)
-  cut-off-refused {e} q k = by_answer (read (take k s) at) refl
+  pub cut_off_refused : {e : Refusal} → read s at ≡ refused e → (k : ℕ) → (read (take k s) at ≡ refused past_end) ⊎ (read (take k s) at ≡ refused e)
+  cut_off_refused {e} q k = by_answer (read (take k s) at) refl
     where
-      by_answer : (a : Answer A) → read (take k s) at ≡ a → (a ≡ refused pastEnd) ⊎ (a ≡ refused e)
-      by_answer (got w m) p = absurd (got-refused (sym q ∙ (same-front k p).0))
+      by_answer : (a : Answer A) → read (take k s) at ≡ a → (a ≡ refused past_end) ⊎ (a ≡ refused e)
+      by_answer (got w m) p = absurd (got_refused (sym q ∙ (same_front k p).0))
       by_answer (refused d) p =
           ⊎_elim (λ t. inl (ap refused t)) (λ r. inr (sym r ∙ ap (λ (x : List ℕ). read x at) (front k) ∙ q)) (steady.local.firm (take k s) (drop k s) at p)
 
 -- ---- readers put together
 
 -- what is read is turned into something else, which may tell where it was read
-local-map : {A B : Type 0} {read : List ℕ → ℕ → Answer A} (f : ℕ → A → B) → Local read → Local (λ s at. and_then (read s at) (λ v next. got (f at v) next))
-local-map {A} {B} {read} f l =
+local_map : {A B : Type 0} {read : List ℕ → ℕ → Answer A} (f : ℕ → A → B) → Local read → Local (λ s at. and_then (read s at) (λ v next. got (f at v) next))
+local_map {A} {B} {read} f l =
     record {
-      on = λ s at e. let b = behind (read s at) (λ v next. got (f at v) next) e in subst (λ (k : ℕ). at ≤ k) (got-next b.then) (l.on s at b.first);
-      inside = λ s at h e. let b = behind (read s at) (λ v next. got (f at v) next) e in subst (λ (k : ℕ). k ≤ length s) (got-next b.then) (l.inside s at h b.first);
+      on = λ s at e. let b = behind (read s at) (λ v next. got (f at v) next) e in subst (λ (k : ℕ). at ≤ k) (got_next b.then) (l.on s at b.first);
+      inside = λ s at h e. let b = behind (read s at) (λ v next. got (f at v) next) e in subst (λ (k : ℕ). k ≤ length s) (got_next b.then) (l.inside s at h b.first);
       same = λ s t at {v} {next} e p h.
           let b = behind (read s at) (λ v next. got (f at v) next) e in
-          let z : b.next ≡ next = got-next b.then in
-          then-got (λ v next. got (f at v) next)
+          let z : b.next ≡ next = got_next b.then in
+          then_got (λ v next. got (f at v) next)
           (l.same s t at b.first (subst (λ (k : ℕ). take k t ≡ take k s) (sym z) p) (subst (λ (k : ℕ). k ≤ length t) (sym z) h))
           ∙ b.then;
-      firm = λ s q at {e} r. firm-by s q at e (read s at) refl r;
+      firm = λ s q at {e} r. firm_by s q at e (read s at) refl r;
     }
   where
-    firm-by : (s q : List ℕ) (at : ℕ) (e : Refusal) (a : Answer A) → read s at ≡ a → and_then a (λ v next. got (f at v) next) ≡ refused e
-        → (e ≡ pastEnd) ⊎ (and_then (read (s ++ q) at) (λ v next. got (f at v) next) ≡ refused e)
-    firm-by s q at e (got v next) p r = absurd (got-refused (sym r))
-    firm-by s q at e (refused d) p r =
-        let z : d ≡ e = same-refusal r in
-        ⊎_elim (λ t. inl (sym z ∙ t)) (λ t. inr (then-refused (λ v next. got (f at v) next) t ∙ ap refused z)) (l.firm s q at p)
+    firm_by : (s q : List ℕ) (at : ℕ) (e : Refusal) (a : Answer A) → read s at ≡ a → and_then a (λ v next. got (f at v) next) ≡ refused e
+        → (e ≡ past_end) ⊎ (and_then (read (s ++ q) at) (λ v next. got (f at v) next) ≡ refused e)
+    firm_by s q at e (got v next) p r = absurd (got_refused (sym r))
+    firm_by s q at e (refused d) p r =
+        let z : d ≡ e = same_refusal r in
+        ⊎_elim (λ t. inl (sym z ∙ t)) (λ t. inr (then_refused (λ v next. got (f at v) next) t ∙ ap refused z)) (l.firm s q at p)
 
 -- one behind the other
-local-then : {A B : Type 0} {read : List ℕ → ℕ → Answer A} {more : A → List ℕ → ℕ → Answer B} → Steady read → ((v : A) → Local (more v))
+local_then : {A B : Type 0} {read : List ℕ → ℕ → Answer A} {more : A → List ℕ → ℕ → Answer B} → Steady read → ((v : A) → Local (more v))
     → Local (λ s at. and_then (read s at) (λ v next. more v s next))
-local-then {A} {B} {read} {more} r l =
+local_then {A} {B} {read} {more} r l =
     record {
       on = λ s at {v} {next} e.
           let b = behind (read s at) (λ v next. more v s next) e in
           let x : at ≤ b.next = r.local.on s at b.first in
           let y : b.next ≤ next = (l b.value).on s b.next b.then in
           omega arith;
-      inside = λ s at h e. bounded-then s at e;
+      inside = λ s at h e. bounded_then s at e;
       same = λ s t at {v} {next} e p h.
           let b = behind (read s at) (λ v next. more v s next) e in
           let y : b.next ≤ next = (l b.value).on s b.next b.then in
-          then-got (λ v next. more v t next)
+          then_got (λ v next. more v t next)
           (r.local.same s t at b.first (sym (take-take b.next next t y) ∙ ap (take b.next) p ∙ take-take b.next next s y) (omega arith))
           ∙ (l b.value).same s t b.next b.then p h;
-      firm = λ s q at {e} f. firm-by s q at e (read s at) refl f;
+      firm = λ s q at {e} f. firm_by s q at e (read s at) refl f;
     }
   where
-    bounded-then : (s : List ℕ) (at : ℕ) {w : B} {end : ℕ} → and_then (read s at) (λ v next. more v s next) ≡ got w end → end ≤ length s
-    bounded-then s at e =
+    bounded_then : (s : List ℕ) (at : ℕ) {w : B} {end : ℕ} → and_then (read s at) (λ v next. more v s next) ≡ got w end → end ≤ length s
+    bounded_then s at e =
         let b = behind (read s at) (λ v next. more v s next) e in
         (l b.value).inside s b.next (r.bounded s at b.first) b.then
 
-    firm-by : (s q : List ℕ) (at : ℕ) (e : Refusal) (a : Answer A) → read s at ≡ a → and_then a (λ v next. more v s next) ≡ refused e
-        → (e ≡ pastEnd) ⊎ (and_then (read (s ++ q) at) (λ v next. more v (s ++ q) next) ≡ refused e)
-    firm-by s q at e (got v next) p f =
-        ⊎_elim inl (λ t. inr (then-got (λ v next. more v (s ++ q) next) (appended read r s at p q) ∙ t)) ((l v).firm s q next f)
-    firm-by s q at e (refused d) p f =
-        let z : d ≡ e = same-refusal f in
-        ⊎_elim (λ t. inl (sym z ∙ t)) (λ t. inr (then-refused (λ v next. more v (s ++ q) next) t ∙ ap refused z)) (r.local.firm s q at p)
+    firm_by : (s q : List ℕ) (at : ℕ) (e : Refusal) (a : Answer A) → read s at ≡ a → and_then a (λ v next. more v s next) ≡ refused e
+        → (e ≡ past_end) ⊎ (and_then (read (s ++ q) at) (λ v next. more v (s ++ q) next) ≡ refused e)
+    firm_by s q at e (got v next) p f =
+        ⊎_elim inl (λ t. inr (then_got (λ v next. more v (s ++ q) next) (appended read r s at p q) ∙ t)) ((l v).firm s q next f)
+    firm_by s q at e (refused d) p f =
+        let z : d ≡ e = same_refusal f in
+        ⊎_elim (λ t. inl (sym z ∙ t)) (λ t. inr (then_refused (λ v next. more v (s ++ q) next) t ∙ ap refused z)) (r.local.firm s q at p)
 
-steady-map : {A B : Type 0} {read : List ℕ → ℕ → Answer A} (f : ℕ → A → B) → Steady read → Steady (λ s at. and_then (read s at) (λ v next. got (f at v) next))
-steady-map {read = read} f r =
+steady_map : {A B : Type 0} {read : List ℕ → ℕ → Answer A} (f : ℕ → A → B) → Steady read → Steady (λ s at. and_then (read s at) (λ v next. got (f at v) next))
+steady_map {read = read} f r =
     record {
-      local = local-map f r.local;
+      local = local_map f r.local;
       bounded = λ s at e.
           let b = behind (read s at) (λ v next. got (f at v) next) e in
-          subst (λ (k : ℕ). k ≤ length s) (got-next b.then) (r.bounded s at b.first);
+          subst (λ (k : ℕ). k ≤ length s) (got_next b.then) (r.bounded s at b.first);
     }
 
 steady_then : {A B : Type 0} {read : List ℕ → ℕ → Answer A} {more : A → List ℕ → ℕ → Answer B} → Steady read → ((v : A) → Local (more v))
     → Steady (λ s at. and_then (read s at) (λ v next. more v s next))
 steady_then {read = read} {more = more} r l =
     record {
-      local = local-then r l;
+      local = local_then r l;
       bounded = λ s at e.
           let b = behind (read s at) (λ v next. more v s next) e in
           (l b.value).inside s b.next (r.bounded s at b.first) b.then;
     }
 
 -- nothing is read
-local-none : {A : Type 0} (v : A) → Local (λ s at. got v at)
-local-none v =
+local_none : {A : Type 0} (v : A) → Local (λ s at. got v at)
+local_none v =
     record {
-      on = λ s at e. le_of_eq (got-next e);
-      inside = λ s at h e. subst (λ (k : ℕ). k ≤ length s) (got-next e) h;
+      on = λ s at e. le_of_eq (got_next e);
+      inside = λ s at h e. subst (λ (k : ℕ). k ≤ length s) (got_next e) h;
       same = λ s t at e p h. e;
-      firm = λ s q at r. absurd (got-refused (sym r));
+      firm = λ s q at r. absurd (got_refused (sym r));
     }
 
-local-refused : {A : Type 0} (why : Refusal) → Local {A = A} (λ s at. refused why)
-local-refused why =
+local_refused : {A : Type 0} (why : Refusal) → Local {A = A} (λ s at. refused why)
+local_refused why =
     record {
-      on = λ s at e. absurd (got-refused e);
-      inside = λ s at h e. absurd (got-refused e);
-      same = λ s t at e p h. absurd (got-refused e);
+      on = λ s at e. absurd (got_refused e);
+      inside = λ s at h e. absurd (got_refused e);
+      same = λ s t at e p h. absurd (got_refused e);
       firm = λ s q at r. inr r;
     }
 
@@ -201,17 +201,17 @@ local-refused why =
 -- n bytes that mean something by themselves, where there is room for them and they pass a test
 module _ {A : Type 0} (n : ℕ) (fit : List ℕ → Bool) (why : Refusal) (value : ℕ → List ℕ → A) where
   judged : Bool → Bool → ℕ → List ℕ → Answer A
-  judged room fits at bytes = cond room (cond fits (got (value at bytes) (at + n)) (refused why)) (refused pastEnd)
+  judged room fits at bytes = cond room (cond fits (got (value at bytes) (at + n)) (refused why)) (refused past_end)
 
   found : (room fits : Bool) (at : ℕ) (bytes : List ℕ) {v : A} {end : ℕ} → judged room fits at bytes ≡ got v end → (room ≡ true) × (fits ≡ true) × (value at bytes ≡ v) × (at + n ≡ end)
   unfolding judged
-  found true true at bytes e = (refl, refl, got-value e, got-next e)
-  found true false at bytes e = absurd (got-refused e)
-  found false fits at bytes e = absurd (got-refused e)
+  found true true at bytes e = (refl, refl, got_value e, got_next e)
+  found true false at bytes e = absurd (got_refused e)
+  found false fits at bytes e = absurd (got_refused e)
 
-  steady-part : (read : List ℕ → ℕ → Answer A) → ((s : List ℕ) (at : ℕ) → read s at ≡ judged (leb (at + n) (length s)) (fit (part s at n)) at (part s at n)) → Steady read
+  steady_part : (read : List ℕ → ℕ → Answer A) → ((s : List ℕ) (at : ℕ) → read s at ≡ judged (leb (at + n) (length s)) (fit (part s at n)) at (part s at n)) → Steady read
   unfolding judged
-  steady-part read is =
+  steady_part read is =
       record {
         local = record {
           on = λ s at e. omega (arith, (met s at e).3);
@@ -233,82 +233,82 @@ module _ {A : Type 0} (n : ℕ) (fit : List ℕ → Bool) (why : Refusal) (value
       inside s at e = let f = met s at e in omega (arith, f.3, leb-true (at + n) (length s) f.0)
 
       firm : (s q : List ℕ) (at : ℕ) {e : Refusal} (room fits : Bool) → leb (at + n) (length s) ≡ room → fit (part s at n) ≡ fits
-          → judged room fits at (part s at n) ≡ refused e → (e ≡ pastEnd) ⊎ (read (s ++ q) at ≡ refused e)
-      firm s q at true true h f r = absurd (got-refused (sym r))
-      firm s q at false fits h f r = inl (sym (same-refusal r))
+          → judged room fits at (part s at n) ≡ refused e → (e ≡ past_end) ⊎ (read (s ++ q) at ≡ refused e)
+      firm s q at true true h f r = absurd (got_refused (sym r))
+      firm s q at false fits h f r = inl (sym (same_refusal r))
       firm s q at true false h f r =
           let k : at + n ≤ length s = leb-true (at + n) (length s) h in
           let l : length (s ++ q) ≡ length s + length q = length-append s q in
-          inr (is (s ++ q) at ∙ ap₂ (λ room fits. judged room fits at (part (s ++ q) at n)) (le-leb (at + n) (length (s ++ q)) (omega arith)) (ap fit (part-more s q at n k) ∙ f) ∙ r)
+          inr (is (s ++ q) at ∙ ap₂ (λ room fits. judged room fits at (part (s ++ q) at n)) (le-leb (at + n) (length (s ++ q)) (omega arith)) (ap fit (part_more s q at n k) ∙ f) ∙ r)
 
-pub steady-number : (n : ℕ) → Steady (number_at n)
+pub steady_number : (n : ℕ) → Steady (number_at n)
 unfolding judged
-steady-number n = steady-part n (λ bytes. true) pastEnd (λ at. be) (number_at n) (λ s at. number_read n s at refl)
+steady_number n = steady_part n (λ bytes. true) past_end (λ at. be) (number_at n) (λ s at. number_read n s at refl)
 
-pub steady-run : (n : ℕ) → Steady (λ s at. run_at s n at)
+pub steady_run : (n : ℕ) → Steady (λ s at. run_at s n at)
 unfolding judged
-steady-run n = steady-part n (λ bytes. true) pastEnd (λ at bytes. place at n) (λ s at. run_at s n at) (λ s at. run-read n s at refl)
+steady_run n = steady_part n (λ bytes. true) past_end (λ at bytes. place at n) (λ s at. run_at s n at) (λ s at. run_read n s at refl)
 
-pub steady-text : (n : ℕ) → Steady (λ s at. textAt s n at)
+pub steady_text : (n : ℕ) → Steady (λ s at. text_at s n at)
 unfolding judged
-steady-text n = steady-part n utf8 notUtf8 (λ at bytes. place at n) (λ s at. textAt s n at) (λ s at. text-read n s at refl refl)
+steady_text n = steady_part n utf8 not_utf8 (λ at bytes. place at n) (λ s at. text_at s n at) (λ s at. text_read n s at refl refl)
 
-pub steady-signed : (w : Width) (n : ℕ) → Steady (signedAt w n)
-unfolding signedAt
-steady-signed w n = steady-map (λ at. to_z w) (steady-number n)
+pub steady_signed : (w : Width) (n : ℕ) → Steady (signed_at w n)
+unfolding signed_at
+steady_signed w n = steady_map (λ at. to_z w) (steady_number n)
 
-pub steady-byte : Steady byte_at
-steady-byte = steady-number 1
+pub steady_byte : Steady byte_at
+steady_byte = steady_number 1
 
-pub steady-short : Steady short_at
-steady-short = steady-number 2
+pub steady_short : Steady short_at
+steady_short = steady_number 2
 
-pub steady-int : Steady intAt
-steady-int = steady-signed w32 4
+pub steady_int : Steady int_at
+steady_int = steady_signed w32 4
 
-pub steady-long : Steady longAt
-steady-long = steady-signed w64 8
+pub steady_long : Steady long_at
+steady_long = steady_signed w64 8
 
-pub steady-uuid : Steady uuidAt
-steady-uuid = steady-run 16
+pub steady_uuid : Steady uuid_at
+steady_uuid = steady_run 16
 
-pub steady-count : Steady countAt
-unfolding countAt
-steady-count = steady-map (λ at. natural) steady-int
+pub steady_count : Steady count_at
+unfolding count_at
+steady_count = steady_map (λ at. natural) steady_int
 
-pub steady-short-bytes : Steady shortBytesAt
-unfolding shortBytesAt
-steady-short-bytes = steady_then steady-short (λ n. (steady-run n).local)
+pub steady_short_bytes : Steady short_bytes_at
+unfolding short_bytes_at
+steady_short_bytes = steady_then steady_short (λ n. (steady_run n).local)
 
-pub steady-string : Steady stringAt
-unfolding stringAt
-steady-string = steady_then steady-short (λ n. (steady-text n).local)
+pub steady_string : Steady string_at
+unfolding string_at
+steady_string = steady_then steady_short (λ n. (steady_text n).local)
 
-local-long-text : (c : Option ℕ) → Local (λ s at. longText s c at)
-local-long-text none = local-refused negativeLength
-local-long-text (some n) = (steady-text n).local
+local_long_text : (c : Option ℕ) → Local (λ s at. long_text s c at)
+local_long_text none = local_refused negative_length
+local_long_text (some n) = (steady_text n).local
 
-pub steady-long-string : Steady longStringAt
-unfolding longStringAt
-steady-long-string = steady_then steady-count local-long-text
+pub steady_long_string : Steady long_string_at
+unfolding long_string_at
+steady_long_string = steady_then steady_count local_long_text
 
-local-nullable : (c : Option ℕ) → Local (λ s at. nullableRun s c at)
-local-nullable none = local-none none
-local-nullable (some n) = local-map (λ at. some) (steady-run n).local
+local_nullable : (c : Option ℕ) → Local (λ s at. nullable_run s c at)
+local_nullable none = local_none none
+local_nullable (some n) = local_map (λ at. some) (steady_run n).local
 
-pub steady-bytes : Steady bytes_at
+pub steady_bytes : Steady bytes_at
 unfolding bytes_at
-steady-bytes = steady_then steady-count local-nullable
+steady_bytes = steady_then steady_count local_nullable
 
-pub local-strings : (n : ℕ) → Local (λ s at. stringsAt s n at)
-unfolding stringsAt
-local-strings zero = local-none []
-local-strings (suc n) = local-then steady-string (λ p. local-map (λ (at : ℕ) (ps : List Place). p ∷ ps) (local-strings n))
+pub local_strings : (n : ℕ) → Local (λ s at. strings_at s n at)
+unfolding strings_at
+local_strings zero = local_none []
+local_strings (suc n) = local_then steady_string (λ p. local_map (λ (at : ℕ) (ps : List Place). p ∷ ps) (local_strings n))
 
-local-listed : (n : ℕ) → Local (λ s start. listed s n start)
+local_listed : (n : ℕ) → Local (λ s start. listed s n start)
 unfolding listed
-local-listed n = local-map (λ (start : ℕ) (ps : List Place). strings n start) (local-strings n)
+local_listed n = local_map (λ (start : ℕ) (ps : List Place). strings n start) (local_strings n)
 
-pub steady-string-list : Steady stringListAt
-unfolding stringListAt
-steady-string-list = steady_then steady-short local-listed
+pub steady_string_list : Steady string_list_at
+unfolding string_list_at
+steady_string_list = steady_then steady_short local_listed

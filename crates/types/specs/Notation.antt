@@ -5,8 +5,8 @@ use Rattle.std.specs.Int.{Width, w32, w64}
 use Rattle.std.proofs.Common.{of_z, SFits}
 use Rattle.types.specs.Answer.{Answer, got}
 use Rattle.types.specs.Number.{digits}
-use Rattle.types.specs.Read.{Place, Strings, number_at, signedAt, intAt, uuidAt, shortBytesAt, stringAt, longStringAt, bytes_at, stringsAt, stringListAt, bytesIn, textsOf}
-use Rattle.types.specs.Write.{Check, fine, counted, countCheck, textCheck, bytesBytes, bytesCheck, maxShort, maxInt, cutBy, joined, lengthsOf, listBytes, listCheck}
+use Rattle.types.specs.Read.{Place, Strings, number_at, signed_at, int_at, uuid_at, short_bytes_at, string_at, long_string_at, bytes_at, strings_at, string_list_at, bytes_in, texts_of}
+use Rattle.types.specs.Write.{Check, fine, counted, count_check, text_check, bytes_bytes, bytes_check, max_short, max_int, cut_by, joined, lengths_of, list_bytes, list_check}
 
 -- a reader finds a value, which may be a place; what it shows is a content, and that is what a writer is given
 pub record Notation (Value Content : Type 0) : Type 1 where
@@ -32,20 +32,20 @@ abbrev pub unsigned : ℕ → Notation ℕ ℕ
 unsigned n = record { read = number_at n; shows = λ s x. x; Given = λ x. x < 256 ^ n; check = λ x. fine; written = digits n; Returns = λ s. Always }
 
 abbrev pub signed : Width → ℕ → Notation ℤ ℤ
-signed w n = record { read = signedAt w n; shows = λ s z. z; Given = SFits w; check = λ z. fine; written = λ z. digits n (of_z w z); Returns = λ s. Always }
+signed w n = record { read = signed_at w n; shows = λ s z. z; Given = SFits w; check = λ z. fine; written = λ z. digits n (of_z w z); Returns = λ s. Always }
 
 -- texts and byte strings are what stands at a place, behind a count of n bytes
-abbrev pub behindCount : ℕ → (List ℕ → ℕ → Answer Place) → (List ℕ → Check) → Notation Place (List ℕ)
-behindCount n read check = record { read = read; shows = bytesIn; Given = Always; check = check; written = counted n; Returns = λ s. Always }
+abbrev pub behind_count : ℕ → (List ℕ → ℕ → Answer Place) → (List ℕ → Check) → Notation Place (List ℕ)
+behind_count n read check = record { read = read; shows = bytes_in; Given = Always; check = check; written = counted n; Returns = λ s. Always }
 
 -- null, or the bytes at a place
-abbrev pub nullOrBytes : List ℕ → Option Place → Option (List ℕ)
-nullOrBytes s none = none
-nullOrBytes s (some p) = some (bytesIn s p)
+abbrev pub null_or_bytes : List ℕ → Option Place → Option (List ℕ)
+null_or_bytes s none = none
+null_or_bytes s (some p) = some (bytes_in s p)
 
 -- a list is one text and the lengths that cut it: 7.4
-abbrev pub textAndLengths : List (List ℕ) → List ℕ × List ℕ
-textAndLengths ts = (joined ts, lengthsOf ts)
+abbrev pub text_and_lengths : List (List ℕ) → List ℕ × List ℕ
+text_and_lengths ts = (joined ts, lengths_of ts)
 
 -- ---- the table of 5.1
 
@@ -62,21 +62,21 @@ abbrev pub long : Notation ℤ ℤ
 long = signed w64 8
 
 abbrev pub uuid : Notation Place (List ℕ)
-uuid = record { read = uuidAt; shows = bytesIn; Given = λ t. length t ≡ 16; check = λ t. fine; written = λ t. t; Returns = λ s. Always }
+uuid = record { read = uuid_at; shows = bytes_in; Given = λ t. length t ≡ 16; check = λ t. fine; written = λ t. t; Returns = λ s. Always }
 
 abbrev pub string : Notation Place (List ℕ)
-string = behindCount 2 stringAt (textCheck maxShort)
+string = behind_count 2 string_at (text_check max_short)
 
-abbrev pub longString : Notation Place (List ℕ)
-longString = behindCount 4 longStringAt (textCheck maxInt)
+abbrev pub long_string : Notation Place (List ℕ)
+long_string = behind_count 4 long_string_at (text_check max_int)
 
-abbrev pub stringList : Notation Strings (List ℕ × List ℕ)
-stringList = record {
-  read = stringListAt;
-  shows = λ s l. textAndLengths (textsOf s (stringsAt s l.left l.at));
+abbrev pub string_list : Notation Strings (List ℕ × List ℕ)
+string_list = record {
+  read = string_list_at;
+  shows = λ s l. text_and_lengths (texts_of s (strings_at s l.left l.at));
   Given = Always;
-  check = λ g. listCheck g.0 g.1;
-  written = λ g. listBytes (cutBy g.0 g.1);
+  check = λ g. list_check g.0 g.1;
+  written = λ g. list_bytes (cut_by g.0 g.1);
   Returns = λ s. Always;
 }
 
@@ -84,12 +84,12 @@ stringList = record {
 abbrev pub bytes : Notation (Option Place) (Option (List ℕ))
 bytes = record {
   read = bytes_at;
-  shows = nullOrBytes;
+  shows = null_or_bytes;
   Given = Always;
-  check = bytesCheck;
-  written = bytesBytes;
-  Returns = λ s at. (count : ℤ) (next : ℕ) → intAt s at ≡ got count next → negsuc 0 ≤ℤ count;
+  check = bytes_check;
+  written = bytes_bytes;
+  Returns = λ s at. (count : ℤ) (next : ℕ) → int_at s at ≡ got count next → negsuc 0 ≤ℤ count;
 }
 
-abbrev pub shortBytes : Notation Place (List ℕ)
-shortBytes = behindCount 2 shortBytesAt (countCheck maxShort)
+abbrev pub short_bytes : Notation Place (List ℕ)
+short_bytes = behind_count 2 short_bytes_at (count_check max_short)

@@ -6,14 +6,14 @@ abbrev pub part : List ℕ → ℕ → ℕ → List ℕ
 part s at n = take n (drop at s)
 
 -- the number whose bytes so far make `value`, and whose further bytes are s
-unfoldable pub beFrom : ℕ → List ℕ → ℕ
-beFrom value [] = value
-beFrom value (b ∷ s) = beFrom (value * 256 + b) s
+unfoldable pub be_from : ℕ → List ℕ → ℕ
+be_from value [] = value
+be_from value (b ∷ s) = be_from (value * 256 + b) s
 
 -- the number of the bytes s
 unfoldable pub be : List ℕ → ℕ
-unfolding beFrom
-be s = beFrom 0 s
+unfolding be_from
+be s = be_from 0 s
 
 -- the lowest n bytes of x, the one of most weight first
 unfoldable pub digits : ℕ → ℕ → List ℕ

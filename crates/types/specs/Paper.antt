@@ -1,7 +1,7 @@
 -- What each case of an answer means: a value and a position, or a refusal. Assumes nothing.
 use Rattle.std.specs.Prelude.{ℕ, ℤ}
 use Rattle.std.proofs.Math.Option.{Option, none, some}
-use Rattle.refusal.specs.Refusal.{paperRefusal}
+use Rattle.refusal.specs.Refusal.{paper_refusal}
 use Rattle.types.specs.Answer.{Answer, got, refused}
 use Rattle.types.specs.Read.{Place, place, Strings, strings}
 use Rattle.types.specs.Write.{Check, fine, against}
@@ -21,47 +21,47 @@ use Rattle.types.specs.declared.Written.{Written}
 abbrev pub place_of : code.Place → Place
 place_of p = place p.start p.len
 
-abbrev pub stringsOf : Walk → Strings
-stringsOf w = strings w.left w.at
+abbrev pub strings_of : Walk → Strings
+strings_of w = strings w.left w.at
 
-abbrev pub paperByte : ReadByte → Answer ℕ
-paperByte (ReadByte.Value value next) = got value next
-paperByte (ReadByte.Refused e) = refused (paperRefusal e)
+abbrev pub paper_byte : ReadByte → Answer ℕ
+paper_byte (ReadByte.Value value next) = got value next
+paper_byte (ReadByte.Refused e) = refused (paper_refusal e)
 
-abbrev pub paperShort : ReadShort → Answer ℕ
-paperShort (ReadShort.Value value next) = got value next
-paperShort (ReadShort.Refused e) = refused (paperRefusal e)
+abbrev pub paper_short : ReadShort → Answer ℕ
+paper_short (ReadShort.Value value next) = got value next
+paper_short (ReadShort.Refused e) = refused (paper_refusal e)
 
-abbrev pub paperInt : ReadInt → Answer ℤ
-paperInt (ReadInt.Value value next) = got value next
-paperInt (ReadInt.Refused e) = refused (paperRefusal e)
+abbrev pub paper_int : ReadInt → Answer ℤ
+paper_int (ReadInt.Value value next) = got value next
+paper_int (ReadInt.Refused e) = refused (paper_refusal e)
 
-abbrev pub paperLong : ReadLong → Answer ℤ
-paperLong (ReadLong.Value value next) = got value next
-paperLong (ReadLong.Refused e) = refused (paperRefusal e)
+abbrev pub paper_long : ReadLong → Answer ℤ
+paper_long (ReadLong.Value value next) = got value next
+paper_long (ReadLong.Refused e) = refused (paper_refusal e)
 
-abbrev pub paperPart : ReadPart → Answer Place
-paperPart (ReadPart.Part p next) = got (place_of p) next
-paperPart (ReadPart.Refused e) = refused (paperRefusal e)
+abbrev pub paper_part : ReadPart → Answer Place
+paper_part (ReadPart.Part p next) = got (place_of p) next
+paper_part (ReadPart.Refused e) = refused (paper_refusal e)
 
-abbrev pub paperBytes : ReadBytes → Answer (Option Place)
-paperBytes (ReadBytes.Null next) = got none next
-paperBytes (ReadBytes.Part p next) = got (some (place_of p)) next
-paperBytes (ReadBytes.Refused e) = refused (paperRefusal e)
+abbrev pub paper_bytes : ReadBytes → Answer (Option Place)
+paper_bytes (ReadBytes.Null next) = got none next
+paper_bytes (ReadBytes.Part p next) = got (some (place_of p)) next
+paper_bytes (ReadBytes.Refused e) = refused (paper_refusal e)
 
-abbrev pub paperStrings : ReadStrings → Answer Strings
-paperStrings (ReadStrings.Strings w next) = got (stringsOf w) next
-paperStrings (ReadStrings.Refused e) = refused (paperRefusal e)
+abbrev pub paper_strings : ReadStrings → Answer Strings
+paper_strings (ReadStrings.Strings w next) = got (strings_of w) next
+paper_strings (ReadStrings.Refused e) = refused (paper_refusal e)
 
-abbrev pub paperWalked : Walked → Answer (Option (Place × ℕ))
-paperWalked (Walked.Text p w) = got (some (place_of p, w.left)) w.at
-paperWalked (Walked.End next) = got none next
-paperWalked (Walked.Refused e) = refused (paperRefusal e)
+abbrev pub paper_walked : Walked → Answer (Option (Place × ℕ))
+paper_walked (Walked.Text p w) = got (some (place_of p, w.left)) w.at
+paper_walked (Walked.End next) = got none next
+paper_walked (Walked.Refused e) = refused (paper_refusal e)
 
-abbrev pub paperWritable : Writable → Check
-paperWritable Writable.Yes = fine
-paperWritable (Writable.No e) = against (paperRefusal e)
+abbrev pub paper_writable : Writable → Check
+paper_writable Writable.Yes = fine
+paper_writable (Writable.No e) = against (paper_refusal e)
 
-abbrev pub paperWritten : Written → Answer Unit
-paperWritten (Written.Next next) = got tt next
-paperWritten (Written.Refused e) = refused (paperRefusal e)
+abbrev pub paper_written : Written → Answer Unit
+paper_written (Written.Next next) = got tt next
+paper_written (Written.Refused e) = refused (paper_refusal e)

@@ -3,7 +3,7 @@
 use Rattle.std.specs.Prelude.{ℕ, ◌+◌, ◌≡◌, Bool, true, false, cond, ◌&&◌, List, [], ◌∷◌, ◌++◌, leb, eqb, length, take, drop}
 use Rattle.std.proofs.Math.Option.{Option, none, some}
 unfoldable pub use Rattle.basis.specs.Lists.{joined}
-use Rattle.refusal.specs.Refusal.{Refusal, notUtf8, outputTooShort, notWritable}
+use Rattle.refusal.specs.Refusal.{Refusal, not_utf8, output_too_short, not_writable}
 use Rattle.types.specs.Answer.{Answer, got, refused}
 use Rattle.types.specs.Number.{digits}
 use Rattle.utf8.specs.Utf8.{utf8}
@@ -24,7 +24,7 @@ demand false why rest = against why
 
 -- what is answered where bs are to be written at a position of out: 14 comes after the check
 abbrev pub written : Check → List ℕ → ℕ → List ℕ → Answer Unit
-written fine out at bs = cond (leb (at + length bs) (length out)) (got tt (at + length bs)) (refused outputTooShort)
+written fine out at bs = cond (leb (at + length bs) (length out)) (got tt (at + length bs)) (refused output_too_short)
 written (against why) out at bs = refused why
 
 -- what the output then holds
@@ -40,11 +40,11 @@ pub record Wrote (check : Check) (out : List ℕ) (at : ℕ) (bs : List ℕ) (an
 -- ---- the widths of counts
 
 -- the largest [short] and the largest [int]
-abbrev pub maxShort : ℕ
-maxShort = 65535
+abbrev pub max_short : ℕ
+max_short = 65535
 
-abbrev pub maxInt : ℕ
-maxInt = 2147483647
+abbrev pub max_int : ℕ
+max_int = 2147483647
 
 -- ---- bytes and texts
 
@@ -52,58 +52,58 @@ maxInt = 2147483647
 unfoldable pub counted : ℕ → List ℕ → List ℕ
 counted n t = digits n (length t) ++ t
 
-abbrev pub countCheck : ℕ → List ℕ → Check
-countCheck limit t = demand (leb (length t) limit) notWritable fine
+abbrev pub count_check : ℕ → List ℕ → Check
+count_check limit t = demand (leb (length t) limit) not_writable fine
 
-abbrev pub textCheck : ℕ → List ℕ → Check
-textCheck limit t = demand (leb (length t) limit) notWritable (demand (utf8 t) notUtf8 fine)
+abbrev pub text_check : ℕ → List ℕ → Check
+text_check limit t = demand (leb (length t) limit) not_writable (demand (utf8 t) not_utf8 fine)
 
 -- [bytes]: null is the count -1, whose four bytes are ff
-abbrev pub bytesBytes : Option (List ℕ) → List ℕ
-bytesBytes none = digits 4 0xffff_ffff
-bytesBytes (some t) = counted 4 t
+abbrev pub bytes_bytes : Option (List ℕ) → List ℕ
+bytes_bytes none = digits 4 0xffff_ffff
+bytes_bytes (some t) = counted 4 t
 
-abbrev pub bytesCheck : Option (List ℕ) → Check
-bytesCheck none = fine
-bytesCheck (some t) = countCheck maxInt t
+abbrev pub bytes_check : Option (List ℕ) → Check
+bytes_check none = fine
+bytes_check (some t) = count_check max_int t
 
 -- ---- [string list]: one text, cut by a list of lengths
 
 -- the texts, each of the length that it is given
-unfoldable pub cutBy : List ℕ → List ℕ → List (List ℕ)
-cutBy t [] = []
-cutBy t (n ∷ ns) = take n t ∷ cutBy (drop n t) ns
+unfoldable pub cut_by : List ℕ → List ℕ → List (List ℕ)
+cut_by t [] = []
+cut_by t (n ∷ ns) = take n t ∷ cut_by (drop n t) ns
 
 -- some texts as one text, which is `joined` of `basis`, and a list of lengths
-unfoldable pub lengthsOf : List (List ℕ) → List ℕ
-lengthsOf [] = []
-lengthsOf (t ∷ ts) = length t ∷ lengthsOf ts
+unfoldable pub lengths_of : List (List ℕ) → List ℕ
+lengths_of [] = []
+lengths_of (t ∷ ts) = length t ∷ lengths_of ts
 
 unfoldable pub total : List ℕ → ℕ
 total [] = 0
 total (n ∷ ns) = n + total ns
 
-unfoldable pub allShort : List ℕ → Bool
-allShort [] = true
-allShort (n ∷ ns) = leb n maxShort && allShort ns
+unfoldable pub all_short : List ℕ → Bool
+all_short [] = true
+all_short (n ∷ ns) = leb n max_short && all_short ns
 
-unfoldable pub allUtf8 : List (List ℕ) → Bool
-allUtf8 [] = true
-allUtf8 (t ∷ ts) = utf8 t && allUtf8 ts
+unfoldable pub all_utf8 : List (List ℕ) → Bool
+all_utf8 [] = true
+all_utf8 (t ∷ ts) = utf8 t && all_utf8 ts
 
-unfoldable pub stringsBytes : List (List ℕ) → List ℕ
-stringsBytes [] = []
-stringsBytes (t ∷ ts) = counted 2 t ++ stringsBytes ts
+unfoldable pub strings_bytes : List (List ℕ) → List ℕ
+strings_bytes [] = []
+strings_bytes (t ∷ ts) = counted 2 t ++ strings_bytes ts
 
-unfoldable pub listBytes : List (List ℕ) → List ℕ
-listBytes ts = digits 2 (length ts) ++ stringsBytes ts
+unfoldable pub list_bytes : List (List ℕ) → List ℕ
+list_bytes ts = digits 2 (length ts) ++ strings_bytes ts
 
 -- each length fits a [short], and together they are `sum`
-unfoldable pub lengthsFit : ℕ → List ℕ → Bool
-lengthsFit sum ns = allShort ns && eqb sum (total ns)
+unfoldable pub lengths_fit : ℕ → List ℕ → Bool
+lengths_fit sum ns = all_short ns && eqb sum (total ns)
 
-unfoldable pub listCheck : List ℕ → List ℕ → Check
-listCheck t ns =
-    demand (leb (length ns) maxShort) notWritable
-    (demand (lengthsFit (length t) ns) notWritable
-    (demand (allUtf8 (cutBy t ns)) notUtf8 fine))
+unfoldable pub list_check : List ℕ → List ℕ → Check
+list_check t ns =
+    demand (leb (length ns) max_short) not_writable
+    (demand (lengths_fit (length t) ns) not_writable
+    (demand (all_utf8 (cut_by t ns)) not_utf8 fine))

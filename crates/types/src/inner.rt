@@ -1,8 +1,8 @@
 // What the crates above share with this one and no caller is meant to use: here the room is asked for, not tested.
 ghost use Rattle.std.specs.Prelude.{◌≡◌, ◌+◌, ◌≤◌, ◌<◌, ◌^◌, leb, length, true};
 ghost use Rattle.types.specs.Number.{be, part, digits};
-ghost use Rattle.types.specs.Write.{put, counted, lengthsFit, allUtf8, cutBy, stringsBytes, listBytes, listCheck};
-ghost use Rattle.types.specs.Paper.{paperWritable};
+ghost use Rattle.types.specs.Write.{put, counted, lengths_fit, all_utf8, cut_by, strings_bytes, list_bytes, list_check};
+ghost use Rattle.types.specs.Paper.{paper_writable};
 
 use crate::{MAX_SHORT, Writable};
 use refusal::Refusal;
@@ -66,7 +66,7 @@ pub fn put_counted(out: &mut [u8], at: usize, n: usize, src: &[u8])
 
 // The lengths are at most 65,535 each, and add up to sum.
 fn lengths_fit(sum: usize, lens: &[usize]) -> bool
-    ensures { result ≡ lengthsFit sum lens.now }
+    ensures { result ≡ lengths_fit sum lens.now }
 {
     let mut left = sum;
     let mut i: usize = 0;
@@ -86,8 +86,8 @@ fn lengths_fit(sum: usize, lens: &[usize]) -> bool
 
 // Each text by itself is UTF-8.
 fn texts_fit(text: &[u8], lens: &[usize]) -> bool
-    requires { lengthsFit (length text.now) lens.now ≡ true }
-    ensures { result ≡ allUtf8 (cutBy text.now lens.now) }
+    requires { lengths_fit (length text.now) lens.now ≡ true }
+    ensures { result ≡ all_utf8 (cut_by text.now lens.now) }
 {
     let mut at: usize = 0;
     let mut i: usize = 0;
@@ -105,7 +105,7 @@ fn texts_fit(text: &[u8], lens: &[usize]) -> bool
 
 // One text that is cut by a list of lengths may be written as a list of strings.
 pub fn check_list(text: &[u8], lens: &[usize]) -> Writable
-    ensures { paperWritable result ≡ listCheck text.now lens.now }
+    ensures { paper_writable result ≡ list_check text.now lens.now }
 {
     if MAX_SHORT < lens.len() {
         return Writable::No(Refusal::NotWritable);
@@ -123,8 +123,8 @@ pub fn check_list(text: &[u8], lens: &[usize]) -> Writable
 
 // The strings, one behind the other, from at on.
 fn put_strings(out: &mut [u8], at: usize, text: &[u8], lens: &[usize])
-    requires { (lengthsFit (length text.now) lens.now ≡ true) × (at + length (stringsBytes (cutBy text.now lens.now)) ≤ length out.old) }
-    ensures { out.new ≡ put out.old at (stringsBytes (cutBy text.now lens.now)) }
+    requires { (lengths_fit (length text.now) lens.now ≡ true) × (at + length (strings_bytes (cut_by text.now lens.now)) ≤ length out.old) }
+    ensures { out.new ≡ put out.old at (strings_bytes (cut_by text.now lens.now)) }
 {
     let mut to = at;
     let mut from: usize = 0;
@@ -142,8 +142,8 @@ fn put_strings(out: &mut [u8], at: usize, text: &[u8], lens: &[usize])
 
 // Their count, and they.
 pub fn put_list(out: &mut [u8], at: usize, text: &[u8], lens: &[usize])
-    requires { (lengthsFit (length text.now) lens.now ≡ true) × (at + length (listBytes (cutBy text.now lens.now)) ≤ length out.old) }
-    ensures { out.new ≡ put out.old at (listBytes (cutBy text.now lens.now)) }
+    requires { (lengths_fit (length text.now) lens.now ≡ true) × (at + length (list_bytes (cut_by text.now lens.now)) ≤ length out.old) }
+    ensures { out.new ≡ put out.old at (list_bytes (cut_by text.now lens.now)) }
 {
     put_number(out, at, 2, lens.len() as u64);
     put_strings(out, at + 2, text, lens);

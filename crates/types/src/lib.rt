@@ -1,7 +1,7 @@
 // The notations of the native protocol (the v5 document, section 3), read and written at a position of lent bytes.
 // `specs/Paper.antt` says what each case of an answer means.
 ghost use Rattle.std.specs.Prelude.{◌≡◌};
-ghost use Rattle.types.specs.Read.{bytesIn};
+ghost use Rattle.types.specs.Read.{bytes_in};
 ghost use Rattle.types.specs.Paper.{place_of};
 
 use refusal::Refusal;
@@ -98,7 +98,7 @@ pub enum Written {
 
 // The bytes of a place, and none where it runs past the end.
 pub fn part<'a>(bytes: &'a [u8], place: Place) -> &'a [u8]
-    ensures { result.now ≡ bytesIn bytes.now (place_of place) }
+    ensures { result.now ≡ bytes_in bytes.now (place_of place) }
 {
     let start = place.start;
     let len = place.len;

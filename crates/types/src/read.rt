@@ -1,8 +1,8 @@
 // Reading a notation at a position.
 ghost use Rattle.std.specs.Prelude.{◌≡◌};
-ghost use Rattle.types.specs.Read.{byte_at, short_at, intAt, longAt, countAt, run_at, textAt, uuidAt, stringAt, longStringAt, shortBytesAt, bytes_at, stringsAt, stringListAt, stepAt};
-ghost use Rattle.types.specs.Paper.{paperByte, paperShort, paperInt, paperLong, paperPart, paperBytes, paperStrings, paperWalked};
-ghost use Rattle.types.specs.Private.Inside.{paperCount, paperEnd, end_of};
+ghost use Rattle.types.specs.Read.{byte_at, short_at, int_at, long_at, count_at, run_at, text_at, uuid_at, string_at, long_string_at, short_bytes_at, bytes_at, strings_at, string_list_at, step_at};
+ghost use Rattle.types.specs.Paper.{paper_byte, paper_short, paper_int, paper_long, paper_part, paper_bytes, paper_strings, paper_walked};
+ghost use Rattle.types.specs.Private.Inside.{paper_count, paper_end, end_of};
 
 use crate::{
     Place, ReadByte, ReadBytes, ReadInt, ReadLong, ReadPart, ReadShort, ReadStrings, Walk, Walked,
@@ -11,7 +11,7 @@ use crate::{
 use refusal::Refusal;
 
 pub fn read_byte(bytes: &[u8], at: usize) -> ReadByte
-    ensures { paperByte result ≡ byte_at bytes.now at }
+    ensures { paper_byte result ≡ byte_at bytes.now at }
 {
     if inner::room(bytes.len(), at, 1) {
         let x = inner::read_number(bytes, at, 1);
@@ -23,7 +23,7 @@ pub fn read_byte(bytes: &[u8], at: usize) -> ReadByte
 }
 
 pub fn read_short(bytes: &[u8], at: usize) -> ReadShort
-    ensures { paperShort result ≡ short_at bytes.now at }
+    ensures { paper_short result ≡ short_at bytes.now at }
 {
     if inner::room(bytes.len(), at, 2) {
         let x = inner::read_number(bytes, at, 2);
@@ -35,7 +35,7 @@ pub fn read_short(bytes: &[u8], at: usize) -> ReadShort
 }
 
 pub fn read_int(bytes: &[u8], at: usize) -> ReadInt
-    ensures { paperInt result ≡ intAt bytes.now at }
+    ensures { paper_int result ≡ int_at bytes.now at }
 {
     if inner::room(bytes.len(), at, 4) {
         let x = inner::read_number(bytes, at, 4);
@@ -48,7 +48,7 @@ pub fn read_int(bytes: &[u8], at: usize) -> ReadInt
 }
 
 pub fn read_long(bytes: &[u8], at: usize) -> ReadLong
-    ensures { paperLong result ≡ longAt bytes.now at }
+    ensures { paper_long result ≡ long_at bytes.now at }
 {
     if inner::room(bytes.len(), at, 8) {
         let x = inner::read_number(bytes, at, 8);
@@ -69,7 +69,7 @@ enum Count {
 }
 
 fn read_count(bytes: &[u8], at: usize) -> Count
-    ensures { paperCount result ≡ countAt bytes.now at }
+    ensures { paper_count result ≡ count_at bytes.now at }
 {
     if inner::room(bytes.len(), at, 4) {
         let x = inner::read_number(bytes, at, 4);
@@ -86,7 +86,7 @@ fn read_count(bytes: &[u8], at: usize) -> Count
 
 // n bytes, whatever they are.
 fn read_run(bytes: &[u8], n: usize, at: usize) -> ReadPart
-    ensures { paperPart result ≡ run_at bytes.now n at }
+    ensures { paper_part result ≡ run_at bytes.now n at }
 {
     if inner::room(bytes.len(), at, n) {
         let next = at + n;
@@ -98,7 +98,7 @@ fn read_run(bytes: &[u8], n: usize, at: usize) -> ReadPart
 
 // n bytes of UTF-8.
 fn read_text(bytes: &[u8], n: usize, at: usize) -> ReadPart
-    ensures { paperPart result ≡ textAt bytes.now n at }
+    ensures { paper_part result ≡ text_at bytes.now n at }
 {
     if inner::room(bytes.len(), at, n) {
         let next = at + n;
@@ -113,13 +113,13 @@ fn read_text(bytes: &[u8], n: usize, at: usize) -> ReadPart
 }
 
 pub fn read_uuid(bytes: &[u8], at: usize) -> ReadPart
-    ensures { paperPart result ≡ uuidAt bytes.now at }
+    ensures { paper_part result ≡ uuid_at bytes.now at }
 {
     read_run(bytes, 16, at)
 }
 
 pub fn read_short_bytes(bytes: &[u8], at: usize) -> ReadPart
-    ensures { paperPart result ≡ shortBytesAt bytes.now at }
+    ensures { paper_part result ≡ short_bytes_at bytes.now at }
 {
     match read_short(bytes, at) {
         ReadShort::Value(n, next) => read_run(bytes, n as usize, next),
@@ -128,7 +128,7 @@ pub fn read_short_bytes(bytes: &[u8], at: usize) -> ReadPart
 }
 
 pub fn read_string(bytes: &[u8], at: usize) -> ReadPart
-    ensures { paperPart result ≡ stringAt bytes.now at }
+    ensures { paper_part result ≡ string_at bytes.now at }
 {
     match read_short(bytes, at) {
         ReadShort::Value(n, next) => read_text(bytes, n as usize, next),
@@ -137,7 +137,7 @@ pub fn read_string(bytes: &[u8], at: usize) -> ReadPart
 }
 
 pub fn read_long_string(bytes: &[u8], at: usize) -> ReadPart
-    ensures { paperPart result ≡ longStringAt bytes.now at }
+    ensures { paper_part result ≡ long_string_at bytes.now at }
 {
     match read_count(bytes, at) {
         Count::Bytes(n, next) => read_text(bytes, n, next),
@@ -147,7 +147,7 @@ pub fn read_long_string(bytes: &[u8], at: usize) -> ReadPart
 }
 
 pub fn read_bytes(bytes: &[u8], at: usize) -> ReadBytes
-    ensures { paperBytes result ≡ bytes_at bytes.now at }
+    ensures { paper_bytes result ≡ bytes_at bytes.now at }
 {
     match read_count(bytes, at) {
         Count::Bytes(n, next) => match read_run(bytes, n, next) {
@@ -167,7 +167,7 @@ enum End {
 }
 
 fn read_strings(bytes: &[u8], n: u16, at: usize) -> End
-    ensures { paperEnd result ≡ end_of (stringsAt bytes.now n at) }
+    ensures { paper_end result ≡ end_of (strings_at bytes.now n at) }
 {
     let mut left = n;
     let mut next = at;
@@ -186,7 +186,7 @@ fn read_strings(bytes: &[u8], n: u16, at: usize) -> End
 }
 
 pub fn read_string_list(bytes: &[u8], at: usize) -> ReadStrings
-    ensures { paperStrings result ≡ stringListAt bytes.now at }
+    ensures { paper_strings result ≡ string_list_at bytes.now at }
 {
     match read_short(bytes, at) {
         ReadShort::Value(n, start) => match read_strings(bytes, n, start) {
@@ -199,7 +199,7 @@ pub fn read_string_list(bytes: &[u8], at: usize) -> ReadStrings
 
 // The next of the strings that are left.
 pub fn next_string(bytes: &[u8], walk: Walk) -> Walked
-    ensures { paperWalked result ≡ stepAt bytes.now walk.left walk.at }
+    ensures { paper_walked result ≡ step_at bytes.now walk.left walk.at }
 {
     let left = walk.left;
     let at = walk.at;

@@ -4,15 +4,15 @@ ghost use Rattle.std.proofs.Math.Option.{none, some};
 ghost use Rattle.std.specs.Int.{w32, w64};
 ghost use Rattle.std.proofs.Common.{of_z};
 ghost use Rattle.types.specs.Number.{digits};
-ghost use Rattle.types.specs.Write.{Wrote, fine, counted, countCheck, textCheck, bytesBytes, bytesCheck, maxShort, maxInt, cutBy, listBytes, listCheck};
-ghost use Rattle.types.specs.Paper.{paperWritable, paperWritten};
+ghost use Rattle.types.specs.Write.{Wrote, fine, counted, count_check, text_check, bytes_bytes, bytes_check, max_short, max_int, cut_by, list_bytes, list_check};
+ghost use Rattle.types.specs.Paper.{paper_writable, paper_written};
 
 use crate::{MAX_INT, MAX_SHORT, Writable, Written, inner, number};
 use refusal::Refusal;
 
 // A number of n bytes.
 fn write_number(out: &mut [u8], at: usize, n: usize, x: u64) -> Written
-    ensures { Wrote fine out.old at (digits n x) (paperWritten result) out.new }
+    ensures { Wrote fine out.old at (digits n x) (paper_written result) out.new }
 {
     if inner::room(out.len(), at, n) {
         inner::put_number(out, at, n, x);
@@ -24,26 +24,26 @@ fn write_number(out: &mut [u8], at: usize, n: usize, x: u64) -> Written
 }
 
 pub fn write_byte(out: &mut [u8], at: usize, x: u8) -> Written
-    ensures { Wrote fine out.old at (digits 1 x) (paperWritten result) out.new }
+    ensures { Wrote fine out.old at (digits 1 x) (paper_written result) out.new }
 {
     write_number(out, at, 1, x as u64)
 }
 
 pub fn write_short(out: &mut [u8], at: usize, x: u16) -> Written
-    ensures { Wrote fine out.old at (digits 2 x) (paperWritten result) out.new }
+    ensures { Wrote fine out.old at (digits 2 x) (paper_written result) out.new }
 {
     write_number(out, at, 2, x as u64)
 }
 
 pub fn write_int(out: &mut [u8], at: usize, x: i32) -> Written
-    ensures { Wrote fine out.old at (digits 4 (of_z w32 x)) (paperWritten result) out.new }
+    ensures { Wrote fine out.old at (digits 4 (of_z w32 x)) (paper_written result) out.new }
 {
     let bits = number::bits32(x);
     write_number(out, at, 4, bits as u64)
 }
 
 pub fn write_long(out: &mut [u8], at: usize, x: i64) -> Written
-    ensures { Wrote fine out.old at (digits 8 (of_z w64 x)) (paperWritten result) out.new }
+    ensures { Wrote fine out.old at (digits 8 (of_z w64 x)) (paper_written result) out.new }
 {
     let bits = number::bits64(x);
     write_number(out, at, 8, bits)
@@ -51,7 +51,7 @@ pub fn write_long(out: &mut [u8], at: usize, x: i64) -> Written
 
 // Some bytes as they are.
 fn write_run(out: &mut [u8], at: usize, bytes: &[u8]) -> Written
-    ensures { Wrote fine out.old at bytes.now (paperWritten result) out.new }
+    ensures { Wrote fine out.old at bytes.now (paper_written result) out.new }
 {
     let len = bytes.len();
     if inner::room(out.len(), at, len) {
@@ -66,7 +66,7 @@ fn write_run(out: &mut [u8], at: usize, bytes: &[u8]) -> Written
 // Some bytes behind their count of n bytes.
 fn write_counted(out: &mut [u8], at: usize, n: usize, bytes: &[u8]) -> Written
     requires { n ≤ 8 }
-    ensures { Wrote fine out.old at (counted n bytes.now) (paperWritten result) out.new }
+    ensures { Wrote fine out.old at (counted n bytes.now) (paper_written result) out.new }
 {
     let size = n + bytes.len();
     if inner::room(out.len(), at, size) {
@@ -79,13 +79,13 @@ fn write_counted(out: &mut [u8], at: usize, n: usize, bytes: &[u8]) -> Written
 }
 
 pub fn write_uuid(out: &mut [u8], at: usize, id: [u8; 16]) -> Written
-    ensures { Wrote fine out.old at id (paperWritten result) out.new }
+    ensures { Wrote fine out.old at id (paper_written result) out.new }
 {
     write_run(out, at, &id)
 }
 
 pub fn write_short_bytes(out: &mut [u8], at: usize, bytes: &[u8]) -> Written
-    ensures { Wrote (countCheck maxShort bytes.now) out.old at (counted 2 bytes.now) (paperWritten result) out.new }
+    ensures { Wrote (count_check max_short bytes.now) out.old at (counted 2 bytes.now) (paper_written result) out.new }
 {
     if bytes.len() <= MAX_SHORT {
         return write_counted(out, at, 2, bytes);
@@ -95,7 +95,7 @@ pub fn write_short_bytes(out: &mut [u8], at: usize, bytes: &[u8]) -> Written
 
 // [bytes], unless they are null: their count, and they.
 pub fn write_bytes(out: &mut [u8], at: usize, bytes: &[u8]) -> Written
-    ensures { Wrote (bytesCheck (some bytes.now)) out.old at (bytesBytes (some bytes.now)) (paperWritten result) out.new }
+    ensures { Wrote (bytes_check (some bytes.now)) out.old at (bytes_bytes (some bytes.now)) (paper_written result) out.new }
 {
     if bytes.len() <= MAX_INT {
         return write_counted(out, at, 4, bytes);
@@ -105,14 +105,14 @@ pub fn write_bytes(out: &mut [u8], at: usize, bytes: &[u8]) -> Written
 
 // [bytes] that are null: the count -1.
 pub fn write_null(out: &mut [u8], at: usize) -> Written
-    ensures { Wrote (bytesCheck none) out.old at (bytesBytes none) (paperWritten result) out.new }
+    ensures { Wrote (bytes_check none) out.old at (bytes_bytes none) (paper_written result) out.new }
 {
     write_number(out, at, 4, 0xffff_ffff)
 }
 
 // A text of at most limit bytes.
 fn check_text(text: &[u8], limit: usize) -> Writable
-    ensures { paperWritable result ≡ textCheck limit text.now }
+    ensures { paper_writable result ≡ text_check limit text.now }
 {
     if limit < text.len() {
         return Writable::No(Refusal::NotWritable);
@@ -126,7 +126,7 @@ fn check_text(text: &[u8], limit: usize) -> Writable
 
 fn write_text(out: &mut [u8], at: usize, n: usize, limit: usize, text: &[u8]) -> Written
     requires { n ≤ 8 }
-    ensures { Wrote (textCheck limit text.now) out.old at (counted n text.now) (paperWritten result) out.new }
+    ensures { Wrote (text_check limit text.now) out.old at (counted n text.now) (paper_written result) out.new }
 {
     match check_text(text, limit) {
         Writable::Yes => write_counted(out, at, n, text),
@@ -135,20 +135,20 @@ fn write_text(out: &mut [u8], at: usize, n: usize, limit: usize, text: &[u8]) ->
 }
 
 pub fn write_string(out: &mut [u8], at: usize, text: &[u8]) -> Written
-    ensures { Wrote (textCheck maxShort text.now) out.old at (counted 2 text.now) (paperWritten result) out.new }
+    ensures { Wrote (text_check max_short text.now) out.old at (counted 2 text.now) (paper_written result) out.new }
 {
     write_text(out, at, 2, MAX_SHORT, text)
 }
 
 pub fn write_long_string(out: &mut [u8], at: usize, text: &[u8]) -> Written
-    ensures { Wrote (textCheck maxInt text.now) out.old at (counted 4 text.now) (paperWritten result) out.new }
+    ensures { Wrote (text_check max_int text.now) out.old at (counted 4 text.now) (paper_written result) out.new }
 {
     write_text(out, at, 4, MAX_INT, text)
 }
 
 // [string list]: the texts that the lengths cut the one text into.
 pub fn write_string_list(out: &mut [u8], at: usize, text: &[u8], lens: &[usize]) -> Written
-    ensures { Wrote (listCheck text.now lens.now) out.old at (listBytes (cutBy text.now lens.now)) (paperWritten result) out.new }
+    ensures { Wrote (list_check text.now lens.now) out.old at (list_bytes (cut_by text.now lens.now)) (paper_written result) out.new }
 {
     match inner::check_list(text, lens) {
         Writable::Yes => {

@@ -10,7 +10,7 @@ use native.Mathlib.Nat.{lt_of_not-le}
 use native.Mathlib.Decide.{dec_le}
 use Rattle.utf8.specs.Utf8.{Range, range, tail, within, Row, rows, Want, wants, never, begin, step, after, whole, utf8}
 use Rattle.utf8.specs.Scalar.{Encodes, one, two, three, four, Text, none, more}
-use Rattle.utf8.proofs.Table.{Lies, lies_within, above_within, below-within, Among, here, there, rising, begins}
+use Rattle.utf8.proofs.Table.{Lies, lies_within, above_within, below_within, Among, here, there, rising, begins}
 
 -- ---- by cases
 
@@ -23,7 +23,7 @@ tested : (r : Range) (b : ℕ) (P : Bool → Type 0) → (Lies r b → P true) �
 tested r b P f g =
     split r.low b
     (λ p. split b r.high (λ q. subst P (sym (lies_within r b (p, q))) (f (p, q))) (λ q. subst P (sym (above_within r b p q)) g))
-    (λ p. subst P (sym (below-within r b p)) g)
+    (λ p. subst P (sym (below_within r b p)) g)
 
 -- ---- scalar values are admitted
 
@@ -44,38 +44,38 @@ fits_after (r ∷ rs) (b ∷ bs) f s =
     ap (λ (t : Bool). after (cond t (wants rs) never) (bs ++ s)) (lies_within r b f.0) ∙ fits_after rs bs f.1 s
 
 -- and so are bytes that fit a row
-row-after : {r : Row} → Among r rows → (bs : List ℕ) → Fits (r.first ∷ r.others) bs
+row_after : {r : Row} → Among r rows → (bs : List ℕ) → Fits (r.first ∷ r.others) bs
     → (s : List ℕ) → after (wants []) (bs ++ s) ≡ after (wants []) s
 unfolding after step
-row-after i [] f s = absurd f
-row-after {r} i (b ∷ bs) f s =
+row_after i [] f s = absurd f
+row_after {r} i (b ∷ bs) f s =
     ap (λ (w : Want). after w (bs ++ s)) (begins 0 rising i b f.0) ∙ fits_after r.others bs f.1 s
 
 -- and so is a scalar value: its bytes fit a row
-encodes-after : {c : ℕ} {bs : List ℕ} → Encodes c bs → (s : List ℕ) → after (wants []) (bs ++ s) ≡ after (wants []) s
-encodes-after {bs = bs} (one h) = row-after here bs (omega arith)
-encodes-after {bs = bs} (two p q) = row-after (there here) bs (omega arith)
-encodes-after {c} {bs} (three p q k) =
+encodes_after : {c : ℕ} {bs : List ℕ} → Encodes c bs → (s : List ℕ) → after (wants []) (bs ++ s) ≡ after (wants []) s
+encodes_after {bs = bs} (one h) = row_after here bs (omega arith)
+encodes_after {bs = bs} (two p q) = row_after (there here) bs (omega arith)
+encodes_after {c} {bs} (three p q k) =
     ⊎_elim
     (λ j. split 0x1000 c
     (λ h. split 0xd000 c
-    (λ h'. row-after (there (there (there (there here)))) bs (omega arith))
-    (λ h'. row-after (there (there (there here))) bs (omega arith)))
-    (λ h. row-after (there (there here)) bs (omega arith)))
-    (λ j. row-after (there (there (there (there (there here))))) bs (omega arith))
+    (λ h'. row_after (there (there (there (there here)))) bs (omega arith))
+    (λ h'. row_after (there (there (there here))) bs (omega arith)))
+    (λ h. row_after (there (there here)) bs (omega arith)))
+    (λ j. row_after (there (there (there (there (there here))))) bs (omega arith))
     k
-encodes-after {c} {bs} (four p q) =
+encodes_after {c} {bs} (four p q) =
     split 0x40000 c
     (λ h. split 0x100000 c
-    (λ h'. row-after (there (there (there (there (there (there (there (there here)))))))) bs (omega arith))
-    (λ h'. row-after (there (there (there (there (there (there (there here))))))) bs (omega arith)))
-    (λ h. row-after (there (there (there (there (there (there here)))))) bs (omega arith))
+    (λ h'. row_after (there (there (there (there (there (there (there (there here)))))))) bs (omega arith))
+    (λ h'. row_after (there (there (there (there (there (there (there here))))))) bs (omega arith)))
+    (λ h. row_after (there (there (there (there (there (there here)))))) bs (omega arith))
 
 -- encoded scalar values are UTF-8
-pub text-utf8 : {s : List ℕ} → Text s → utf8 s ≡ true
+pub text_utf8 : {s : List ℕ} → Text s → utf8 s ≡ true
 unfolding utf8 after
-text-utf8 none = refl
-text-utf8 (more {s = s} e t) = ap whole (encodes-after e s) ∙ text-utf8 t
+text_utf8 none = refl
+text_utf8 (more {s = s} e t) = ap whole (encodes_after e s) ∙ text_utf8 t
 
 -- ---- what is admitted is scalar values
 
@@ -94,23 +94,23 @@ abbrev value4 : ℕ → ℕ → ℕ → ℕ → ℕ
 value4 x y z v = (x - 0xf0) * 262144 + (y - 0x80) * 4096 + (z - 0x80) * 64 + (v - 0x80)
 
 -- where it is a scalar value of their size, they are its encoding
-two-joins : (x y : ℕ) → Lies (range 0xc2 0xdf) x → Lies tail y → Joins (x ∷ y ∷ [])
-two-joins x y hx hy s t =
+two_joins : (x y : ℕ) → Lies (range 0xc2 0xdf) x → Lies tail y → Joins (x ∷ y ∷ [])
+two_joins x y hx hy s t =
     let ex : 0xc0 + value2 x y / 64 ≡ x = omega arith in
     let ey : 0x80 + value2 x y % 64 ≡ y = omega arith in
     rw (ex, ey) at (more (two {c = value2 x y} (omega arith) (omega arith)) t)
 
-three-joins : (x y z : ℕ) → Lies (range 0xe0 0xef) x → Lies tail y → Lies tail z
+three_joins : (x y z : ℕ) → Lies (range 0xe0 0xef) x → Lies tail y → Lies tail z
     → 0x800 ≤ value3 x y z → (value3 x y z < 0xd800) ⊎ (0xe000 ≤ value3 x y z) → Joins (x ∷ y ∷ z ∷ [])
-three-joins x y z hx hy hz l k s t =
+three_joins x y z hx hy hz l k s t =
     let ex : 0xe0 + value3 x y z / 4096 ≡ x = omega arith in
     let ey : 0x80 + value3 x y z / 64 % 64 ≡ y = omega arith in
     let ez : 0x80 + value3 x y z % 64 ≡ z = omega arith in
     rw (ex, ey, ez) at (more (three {c = value3 x y z} l (omega arith) k) t)
 
-four-joins : (x y z v : ℕ) → Lies (range 0xf0 0xf4) x → Lies tail y → Lies tail z → Lies tail v
+four_joins : (x y z v : ℕ) → Lies (range 0xf0 0xf4) x → Lies tail y → Lies tail z → Lies tail v
     → 0x10000 ≤ value4 x y z v → value4 x y z v < 0x110000 → Joins (x ∷ y ∷ z ∷ v ∷ [])
-four-joins x y z v hx hy hz hv l u s t =
+four_joins x y z v hx hy hz hv l u s t =
     let ex : 0xf0 + value4 x y z v / 262144 ≡ x = omega arith in
     let ey : 0x80 + value4 x y z v / 4096 % 64 ≡ y = omega arith in
     let ez : 0x80 + value4 x y z v / 64 % 64 ≡ z = omega arith in
@@ -144,14 +144,14 @@ begun P (r ∷ rs) ps b Q n f =
 rows_join : Each (λ r. Whenever (r.first ∷ r.others) Joins) rows
 rows_join =
     (λ x hx s t. more (one (omega arith)) t)
-    ▸ (λ x hx y hy. two-joins x y hx hy)
-    ▸ (λ x hx y hy z hz. three-joins x y z (omega arith) (omega arith) hz (omega arith) (inl (omega arith)))
-    ▸ (λ x hx y hy z hz. three-joins x y z (omega arith) hy hz (omega arith) (inl (omega arith)))
-    ▸ (λ x hx y hy z hz. three-joins x y z (omega arith) (omega arith) hz (omega arith) (inl (omega arith)))
-    ▸ (λ x hx y hy z hz. three-joins x y z (omega arith) hy hz (omega arith) (inr (omega arith)))
-    ▸ (λ x hx y hy z hz v hv. four-joins x y z v (omega arith) (omega arith) hz hv (omega arith) (omega arith))
-    ▸ (λ x hx y hy z hz v hv. four-joins x y z v (omega arith) hy hz hv (omega arith) (omega arith))
-    ▸ (λ x hx y hy z hz v hv. four-joins x y z v (omega arith) (omega arith) hz hv (omega arith) (omega arith))
+    ▸ (λ x hx y hy. two_joins x y hx hy)
+    ▸ (λ x hx y hy z hz. three_joins x y z (omega arith) (omega arith) hz (omega arith) (inl (omega arith)))
+    ▸ (λ x hx y hy z hz. three_joins x y z (omega arith) hy hz (omega arith) (inl (omega arith)))
+    ▸ (λ x hx y hy z hz. three_joins x y z (omega arith) (omega arith) hz (omega arith) (inl (omega arith)))
+    ▸ (λ x hx y hy z hz. three_joins x y z (omega arith) hy hz (omega arith) (inr (omega arith)))
+    ▸ (λ x hx y hy z hz v hv. four_joins x y z v (omega arith) (omega arith) hz hv (omega arith) (omega arith))
+    ▸ (λ x hx y hy z hz v hv. four_joins x y z v (omega arith) hy hz hv (omega arith) (omega arith))
+    ▸ (λ x hx y hy z hz v hv. four_joins x y z v (omega arith) (omega arith) hz hv (omega arith) (omega arith))
     ▸ tt
 
 -- nothing makes up for a byte that is not admitted
@@ -175,6 +175,6 @@ reads (r ∷ rs) (b ∷ s) P f h =
     (λ l k. reads rs s (λ t. P (b ∷ t)) (f b l) k) (λ k. absurd (lost s k)) h
 
 -- UTF-8 is encoded scalar values
-pub utf8-text : (s : List ℕ) → utf8 s ≡ true → Text s
+pub utf8_text : (s : List ℕ) → utf8 s ≡ true → Text s
 unfolding utf8
-utf8-text s h = reads [] s Text (λ bs t. t) h
+utf8_text s h = reads [] s Text (λ bs t. t) h

@@ -26,8 +26,8 @@ lies_within r b h = rw (le-leb r.low b h.0, le-leb b r.high h.1)
 pub above_within : (r : Range) (b : ℕ) → r.low ≤ b → r.high < b → within r b ≡ false
 above_within r b p q = rw (le-leb r.low b p, lt-leb b r.high q)
 
-pub below-within : (r : Range) (b : ℕ) → b < r.low → within r b ≡ false
-below-within r b p = rw (lt-leb r.low b p)
+pub below_within : (r : Range) (b : ℕ) → b < r.low → within r b ≡ false
+below_within r b p = rw (lt-leb r.low b p)
 
 -- ---- the rows
 
@@ -46,10 +46,10 @@ pub rising : Rising 0 rows
 rising = omega arith
 
 -- then no row begins below `least`
-rising-low : {r : Row} {rs : List Row} (least : ℕ) → Rising least rs → Among r rs → least ≤ r.first.low
-rising-low least h here = h.0
-rising-low least h (there {r = r} {q = q} i) =
-    let k : q.first.high < r.first.low = rising-low (suc q.first.high) h.2 i in
+rising_low : {r : Row} {rs : List Row} (least : ℕ) → Rising least rs → Among r rs → least ≤ r.first.low
+rising_low least h here = h.0
+rising_low least h (there {r = r} {q = q} i) =
+    let k : q.first.high < r.first.low = rising_low (suc q.first.high) h.2 i in
     omega (arith, h.0, h.1)
 
 -- so a byte that begins a row begins no other, and asks for what that row does
@@ -57,7 +57,7 @@ pub begins : {r : Row} {rs : List Row} (least : ℕ) → Rising least rs → Amo
 unfolding begin
 begins least h (here {r = r} {rs = rs}) b l = ap (λ (t : Bool). cond t (wants r.others) (begin rs b)) (lies_within r.first b l)
 begins least h (there {r = r} {q = q} {rs = rs} i) b l =
-    let k : q.first.high < r.first.low = rising-low (suc q.first.high) h.2 i in
+    let k : q.first.high < r.first.low = rising_low (suc q.first.high) h.2 i in
     ap (λ (t : Bool). cond t (wants q.others) (begin rs b)) (above_within q.first b (omega (arith, h.1)) (omega arith))
     ∙ begins (suc q.first.high) h.2 i b l
 
@@ -71,7 +71,7 @@ below_rows : (rs : List Row) (least b : ℕ) → Rising least rs → b < least �
 unfolding begin
 below_rows [] least b h k = refl
 below_rows (r ∷ rs) least b h k =
-    ap (λ (t : Bool). cond t (wants r.others) (begin rs b)) (below-within r.first b (omega (arith, h.0)))
+    ap (λ (t : Bool). cond t (wants r.others) (begin rs b)) (below_within r.first b (omega (arith, h.0)))
     ∙ below_rows rs (suc r.first.high) b h.2 (omega (arith, h.0, h.1))
 
 abbrev AllBelow : ℕ → List Row → Type 0
@@ -84,34 +84,34 @@ above_rows [] b h = refl
 above_rows (r ∷ rs) b h = past_row r rs b h.0 h.1 ∙ above_rows rs b h.2
 
 -- so no character begins with 80 to c1, and none above f4
-pub never-begins : (b : ℕ) → 0x7f < b → b < 0xc2 → begin rows b ≡ never
-never-begins b p q = past_row _ _ b (omega arith) p ∙ below_rows _ 0xc2 b (omega arith) q
+pub never_begins : (b : ℕ) → 0x7f < b → b < 0xc2 → begin rows b ≡ never
+never_begins b p q = past_row _ _ b (omega arith) p ∙ below_rows _ 0xc2 b (omega arith) q
 
-pub never-begins-high : (b : ℕ) → 0xf4 < b → begin rows b ≡ never
-never-begins-high b h = above_rows rows b (omega arith)
+pub never_begins_high : (b : ℕ) → 0xf4 < b → begin rows b ≡ never
+never_begins_high b h = above_rows rows b (omega arith)
 
 -- ---- one byte further
 
-pub tail-below : (r : Range) (others : List Range) (b : ℕ) → b < r.low → step (wants (r ∷ others)) b ≡ never
+pub tail_below : (r : Range) (others : List Range) (b : ℕ) → b < r.low → step (wants (r ∷ others)) b ≡ never
 unfolding step
-tail-below r others b h = ap (λ (t : Bool). cond t (wants others) never) (below-within r b h)
+tail_below r others b h = ap (λ (t : Bool). cond t (wants others) never) (below_within r b h)
 
-pub tail-above : (r : Range) (others : List Range) (b : ℕ) → r.low ≤ b → r.high < b → step (wants (r ∷ others)) b ≡ never
+pub tail_above : (r : Range) (others : List Range) (b : ℕ) → r.low ≤ b → r.high < b → step (wants (r ∷ others)) b ≡ never
 unfolding step
-tail-above r others b p q = ap (λ (t : Bool). cond t (wants others) never) (above_within r b p q)
+tail_above r others b p q = ap (λ (t : Bool). cond t (wants others) never) (above_within r b p q)
 
-pub tail-fits : (r : Range) (others : List Range) (b : ℕ) → r.low ≤ b → b ≤ r.high → step (wants (r ∷ others)) b ≡ wants others
+pub tail_fits : (r : Range) (others : List Range) (b : ℕ) → r.low ≤ b → b ≤ r.high → step (wants (r ∷ others)) b ≡ wants others
 unfolding step
-tail-fits r others b p q = ap (λ (t : Bool). cond t (wants others) never) (lies_within r b (p, q))
+tail_fits r others b p q = ap (λ (t : Bool). cond t (wants others) never) (lies_within r b (p, q))
 
-pub tails-none : (n : ℕ) → n ≡ 0 → tails n ≡ []
+pub tails_none : (n : ℕ) → n ≡ 0 → tails n ≡ []
 unfolding tails
-tails-none n e = ap tails e
+tails_none n e = ap tails e
 
-pub tails-more : (n : ℕ) → 0 < n → tails n ≡ tail ∷ tails (n - 1)
+pub tails_more : (n : ℕ) → 0 < n → tails n ≡ tail ∷ tails (n - 1)
 unfolding tails
-tails-more zero h = absurd (not-suc-le-zero h)
-tails-more (suc n) h = ap (λ (k : ℕ). tail ∷ tails k) (sym (sub-one (suc n)))
+tails_more zero h = absurd (not-suc-le-zero h)
+tails_more (suc n) h = ap (λ (k : ℕ). tail ∷ tails k) (sym (sub-one (suc n)))
 
 -- what is left of the bytes, one byte further
 pub after_next : (w : Want) (s : List ℕ) (i : ℕ) → i < length s → after w (drop i s) ≡ after (step w (get_or s i 0)) (drop (i + 1) s)
@@ -119,6 +119,6 @@ unfolding after
 after_next w s i h = rw (add-one, drop-cons s i 0)
 
 -- past the last byte
-pub utf8-end : (s : List ℕ) (w : Want) (i : ℕ) → length s ≤ i → after (wants []) s ≡ after w (drop i s) → utf8 s ≡ whole w
+pub utf8_end : (s : List ℕ) (w : Want) (i : ℕ) → length s ≤ i → after (wants []) s ≡ after w (drop i s) → utf8 s ≡ whole w
 unfolding utf8 after
-utf8-end s w i h e = ap whole (e ∙ ap (after w) (drop_of_length-le s h))
+utf8_end s w i h e = ap whole (e ∙ ap (after w) (drop_of_length-le s h))

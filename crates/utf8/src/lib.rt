@@ -1,7 +1,7 @@
 // UTF-8 as RFC 3629, section 4, has it.
 ghost use Rattle.std.specs.Prelude.{◌≡◌};
 ghost use Rattle.utf8.specs.Utf8.{begin, rows, step, whole, utf8};
-ghost use Rattle.utf8.specs.Private.Waiting.{wantOf};
+ghost use Rattle.utf8.specs.Private.Waiting.{want_of};
 
 // What is still to come of a character: nothing, so that a first byte may come; or a byte from low to high and then `more` bytes
 // from 80 to bf; or nothing can make it one.
@@ -20,7 +20,7 @@ fn tail(low: u8, high: u8, more: u8) -> Waiting
 
 // The rows of the table, one after the other.
 fn first(b: u8) -> Waiting
-    ensures { wantOf result ≡ begin rows b }
+    ensures { want_of result ≡ begin rows b }
 {
     if b <= 0x7f {
         return Waiting::First;
@@ -56,7 +56,7 @@ fn first(b: u8) -> Waiting
 }
 
 fn next(w: Waiting, b: u8) -> Waiting
-    ensures { wantOf result ≡ step (wantOf w) b }
+    ensures { want_of result ≡ step (want_of w) b }
 {
     match w {
         Waiting::First => first(b),
@@ -77,7 +77,7 @@ fn next(w: Waiting, b: u8) -> Waiting
 }
 
 fn is_first(w: Waiting) -> bool
-    ensures { result ≡ whole (wantOf w) }
+    ensures { result ≡ whole (want_of w) }
 {
     match w {
         Waiting::First => true,

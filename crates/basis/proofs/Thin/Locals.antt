@@ -1,10 +1,10 @@
 -- For the walk of a thin function (`Thin.antt`): its locals, a row at a time, and the slices that it is lent and lends on. Each rule is one induction, so the walk is one for any number of slices.
 --     Blocks, Held, values, locals, placed        of a row of types: a block for each; a value that fits each; those values; the locals; the environment.        Rooms, Cells     the rooms, and the cells with the values, each with what lets its block be freed
---     behind, Spots        the number of a local behind a row, and that a row is the locals i, suc i …        at_front, at-rear       a row at the front of an environment, and one behind it
---     alloc_all, pass_all, free_all, look-all     `alloc1`, `pass1`, `free1` and `look` for a row: each local of it.        gone     a local is freed, whatever it holds.        at      the place of a local whose number is not written out
+--     behind, Spots        the number of a local behind a row, and that a row is the locals i, suc i …        at_front, at_rear       a row at the front of an environment, and one behind it
+--     alloc_all, pass_all, free_all, look_all     `alloc1`, `pass1`, `free1` and `look` for a row: each local of it.        gone     a local is freed, whatever it holds.        at      the place of a local whose number is not written out
 --     ms : List Mutability         the slices lent: `mut` is `&mut [u8]`, and `imm` is `&[u8]`
 --     slices, onward       the locals of the parameters, and those of what is made of each `&mut` to lend it on.        lends, lent        the statements that do, and the operands that are passed
---     Pieces, taken, made      a pointer and a length for each; what the one row of locals holds, and the other.        lend-all, passes_on       the walk of the statements, and what the operands are: what was taken
+--     Pieces, taken, made      a pointer and a length for each; what the one row of locals holds, and the other.        lend_all, passes_on       the walk of the statements, and what the operands are: what was taken
 --     rows, pieces         the slices' types, and that what they own says what their machine values are
 -- The rules take `Logic`. The rest assumes nothing.
 use mathlib.Core.Path.{◌≡◌, refl, sym, subst}
@@ -79,9 +79,9 @@ module _ {M : Type 1} (𝓤 : Ura M) (H : Heap 𝓤) where
   at_front [] bs E = tt
   at_front (τ ∷ τs) bs E = (refl, one_on (τ, bs.0) (placed τs bs.1 E) 0 τs bs.1 (at_front τs bs.1 E))
 
-  pub at-rear : (τs σs : List Ty) (bs : Blocks τs) (cs : Blocks σs) → Spots (placed τs bs (placed σs cs [])) (behind τs 0) σs cs
-  at-rear [] σs bs cs = at_front σs cs []
-  at-rear (τ ∷ τs) σs bs cs = one_on (τ, bs.0) (placed τs bs.1 (placed σs cs [])) (behind τs 0) σs cs (at-rear τs σs bs.1 cs)
+  pub at_rear : (τs σs : List Ty) (bs : Blocks τs) (cs : Blocks σs) → Spots (placed τs bs (placed σs cs [])) (behind τs 0) σs cs
+  at_rear [] σs bs cs = at_front σs cs []
+  at_rear (τ ∷ τs) σs bs cs = one_on (τ, bs.0) (placed τs bs.1 (placed σs cs [])) (behind τs 0) σs cs (at_rear τs σs bs.1 cs)
 
 module _ {M : Type 1} {𝓤 : Ura M} {𝓛 : Logic 𝓤} {K : Type 0} where
   open 𝓛 use {H}
@@ -111,21 +111,21 @@ module _ {M : Type 1} {𝓤 : Ura M} (K : Type 0) (𝓛 : Logic 𝓤) (Γ : List
   ReadsAll (τ ∷ τs) bs vs = Reads K 𝓛 Γ τ bs.0 zero vs.0 × ReadsAll τs bs.1 vs.2
 
   -- Γ is the row and the entries Δ
-  look-beside : K → (τs : List Ty) (bs : Blocks τs) (vs : Held τs) (Δ : List (Item 𝓤)) → ent 𝓤 (⋆ 𝓛 Γ) (⋆ 𝓛 (‵ (Cells τs bs vs) ∷ Δ)) → ent 𝓤 (⋆ 𝓛 (‵ (Cells τs bs vs) ∷ Δ)) (⋆ 𝓛 Γ) → ReadsAll τs bs vs
-  look-beside t [] bs vs Δ out back = tt
-  look-beside t (τ ∷ τs) bs vs Δ out back =
+  look_beside : K → (τs : List Ty) (bs : Blocks τs) (vs : Held τs) (Δ : List (Item 𝓤)) → ent 𝓤 (⋆ 𝓛 Γ) (⋆ 𝓛 (‵ (Cells τs bs vs) ∷ Δ)) → ent 𝓤 (⋆ 𝓛 (‵ (Cells τs bs vs) ∷ Δ)) (⋆ 𝓛 Γ) → ReadsAll τs bs vs
+  look_beside t [] bs vs Δ out back = tt
+  look_beside t (τ ∷ τs) bs vs Δ out back =
       let row : Item 𝓤 = ‵ (Cells (τ ∷ τs) bs vs) in
       let more : Item 𝓤 = ‵ (Cells τs bs.1 vs.2) in
       let one : Fml = fsep (fat full_share τ bs.0 zero vs.0) (fdies τ bs.0) in
       let apart : List (Item 𝓤) = ‵ (fat full_share τ bs.0 zero vs.0) ∷ ‵ (fdies τ bs.0) ∷ more ∷ Δ in
       let cell : Reads K 𝓛 apart τ bs.0 zero vs.0 = look t 0 refl in (
         record { go = λ Kt h. via 𝓤 _ out (via 𝓤 _ (qed 𝓛 (row ∷ Δ) ∵ fsplit ! $ fsplit ! $ done !) (cell.go Kt (via 𝓤 _ (qed 𝓛 apart ∵ fjoin ! $ fjoin ! $ done !) (via 𝓤 _ back h)))) },
-        look-beside t τs bs.1 vs.2 (‵ one ∷ Δ) (via 𝓤 _ out (qed 𝓛 (row ∷ Δ) ∵ fsplit ! $ move ! (1 ∷ []) $ done !)) (via 𝓤 _ (qed 𝓛 (more ∷ ‵ one ∷ Δ) ∵ move ! (1 ∷ []) $ fjoin ! $ done !) back),
+        look_beside t τs bs.1 vs.2 (‵ one ∷ Δ) (via 𝓤 _ out (qed 𝓛 (row ∷ Δ) ∵ fsplit ! $ move ! (1 ∷ []) $ done !)) (via 𝓤 _ (qed 𝓛 (more ∷ ‵ one ∷ Δ) ∵ move ! (1 ∷ []) $ fjoin ! $ done !) back),
       )
 
-  pub look-all : K → (n : ℕ) (τs : List Ty) (bs : Blocks τs) (vs : Held τs) → nth 𝓛 n Γ ≡ ‵ (Cells τs bs vs) → ReadsAll τs bs vs
-  look-all t n τs bs vs e =
-      look-beside t τs bs vs (del 𝓛 n Γ) (subst (λ (i : Item 𝓤). ent 𝓤 (⋆ 𝓛 Γ) (⋆ 𝓛 (i ∷ del 𝓛 n Γ))) e (via 𝓤 _ (pull 𝓛 n Γ) (push 𝓛 (nth 𝓛 n Γ) (del 𝓛 n Γ))))
+  pub look_all : K → (n : ℕ) (τs : List Ty) (bs : Blocks τs) (vs : Held τs) → nth 𝓛 n Γ ≡ ‵ (Cells τs bs vs) → ReadsAll τs bs vs
+  look_all t n τs bs vs e =
+      look_beside t τs bs vs (del 𝓛 n Γ) (subst (λ (i : Item 𝓤). ent 𝓤 (⋆ 𝓛 Γ) (⋆ 𝓛 (i ∷ del 𝓛 n Γ))) e (via 𝓤 _ (pull 𝓛 n Γ) (push 𝓛 (nth 𝓛 n Γ) (del 𝓛 n Γ))))
       (subst (λ (i : Item 𝓤). ent 𝓤 (⋆ 𝓛 (i ∷ del 𝓛 n Γ)) (⋆ 𝓛 Γ)) e (via 𝓤 _ (pop 𝓛 (nth 𝓛 n Γ) (del 𝓛 n Γ)) (unpull 𝓛 n Γ)))
 
 -- ---- slices that are lent on
@@ -186,17 +186,17 @@ module _ {M : Type 1} {𝓤 : Ura M} {𝓛 : Logic 𝓤} {K : Type 0} where
 module _ {M : Type 1} {𝓤 : Ura M} {𝓛 : Logic 𝓤} {K : Type 0} {E : Env 𝓤 𝓛.H} where
   open 𝓛 use {H}
 
-  pub lend-all : {C : Calls 𝓤 H} {Λ : Loops 𝓤 H} {rest : Body} {q : Post 𝓤 H} → K
+  pub lend_all : {C : Calls 𝓤 H} {Λ : Loops 𝓤 H} {rest : Body} {q : Post 𝓤 H} → K
       → (ms : List Mutability) (x : Pieces ms) (n i j : ℕ) (bs : Blocks (slices n ms)) (cs : Blocks (onward ms)) → Spots 𝓤 H E i (slices n ms) bs → Spots 𝓤 H E j (onward ms) cs → {Γ : List (Item 𝓤)}
       → Step K 𝓛 (‵ (Cells (slices n ms) bs (taken n ms x)) ∷ ‵ (Cells (onward ms) cs (made ms x)) ∷ Γ) (runs C Λ E rest q) (‵ (Cells (slices n ms) bs (taken n ms x)) ∷ ‵ (Rooms (onward ms) cs) ∷ Γ) (runs C Λ E (lends i j ms rest) q)
-  lend-all t [] x n i j bs cs sp sq = step (λ s. s)
-  lend-all t (imm ∷ ms) x n i j bs cs sp sq = step (λ s. fsplit t $ move t (1 ∷ 2 ∷ []) $ lend-all t ms x.3 (suc n) (suc i) j bs.1 cs sp.1 sq $ move t (2 ∷ 0 ∷ []) $ fjoin t $ s)
-  lend-all t (mut ∷ ms) x n i j bs cs sp sq = step (λ s.
+  lend_all t [] x n i j bs cs sp sq = step (λ s. s)
+  lend_all t (imm ∷ ms) x n i j bs cs sp sq = step (λ s. fsplit t $ move t (1 ∷ 2 ∷ []) $ lend_all t ms x.3 (suc n) (suc i) j bs.1 cs sp.1 sq $ move t (2 ∷ 0 ∷ []) $ fjoin t $ s)
+  lend_all t (mut ∷ ms) x n i j bs cs sp sq = step (λ s.
       -- [room for the pointer; room for the slice; the parameter; the other parameters; room for more; …]
       apart t $ assigns t (addr t (at t sp.0 (fld t refl (hop t (look_in t 2 (sub t 0 refl (whole t))) (stop t))))) (at t sq.0 (stop t)) (init t 0 refl (tt, tt)) $
       assigns t (agg t (and_then t (load t (at t sq.0 (stop t)) (look t 0 refl)) (and_then t (load t (at t sp.0 (fld t refl (stop t))) (look_in t 2 (sub t 1 refl (whole t)))) (no_more t))))
       (at t sq.1.0 (stop t)) (init t 1 refl (slice_fits x.0 erased mut x.2)) $
-      move t (3 ∷ 4 ∷ []) $ lend-all t ms x.3 (suc n) (suc i) (suc (suc j)) bs.1 cs.1.1 sp.1 sq.1.1 $ together t $ s)
+      move t (3 ∷ 4 ∷ []) $ lend_all t ms x.3 (suc n) (suc i) (suc (suc j)) bs.1 cs.1.1 sp.1 sq.1.1 $ together t $ s)
 
   pub passes_on : {Γ : List (Item 𝓤)} → K → (ms : List Mutability) (x : Pieces ms) (n i j : ℕ) (bs : Blocks (slices n ms)) (cs : Blocks (onward ms)) → Spots 𝓤 H E i (slices n ms) bs → Spots 𝓤 H E j (onward ms) cs
       → ReadsAll K 𝓛 Γ (slices n ms) bs (taken n ms x) → ReadsAll K 𝓛 Γ (onward ms) cs (made ms x) → Opds K 𝓛 Γ E (lent i j ms) (values (slices n ms) (taken n ms x))

@@ -1,36 +1,36 @@
 -- What only the contracts of functions inside this crate cite, and proofs. No public promise speaks of it: a reader of the promises need not believe it.
 -- What the types inside the crate mean. Assumes nothing.
 use Rattle.std.specs.Prelude.{ℕ, ◌+◌, cond, ◌≡◌, leb, length}
-use Rattle.refusal.specs.Refusal.{paperRefusal}
+use Rattle.refusal.specs.Refusal.{paper_refusal}
 use Rattle.types.specs.Answer.{Answer, got, refused}
 use Rattle.types.specs.Read.{Strings, strings}
-use Rattle.types.specs.Paper.{stringsOf}
+use Rattle.types.specs.Paper.{strings_of}
 use Rattle.types.specs.Write.{fine}
-use Rattle.frame.specs.Header.{Header, hasId, hasWarnings}
-use Rattle.frame.specs.Write.{Content, tail_bytes, maxBody, envelopeCheck}
+use Rattle.frame.specs.Header.{Header, has_id, has_warnings}
+use Rattle.frame.specs.Write.{Content, tail_bytes, max_body, envelope_check}
 use Rattle.frame.specs.declared.read.Warnings.{Warnings}
 
 -- the warnings of an envelope whose id ends at a position
-abbrev pub paperWarnings : ℕ → Warnings → Answer Strings
-paperWarnings at Warnings.Absent = got (strings 0 at) at
-paperWarnings at (Warnings.List walk next) = got (stringsOf walk) next
-paperWarnings at (Warnings.Refused e) = refused (paperRefusal e)
+abbrev pub paper_warnings : ℕ → Warnings → Answer Strings
+paper_warnings at Warnings.Absent = got (strings 0 at) at
+paper_warnings at (Warnings.List walk next) = got (strings_of walk) next
+paper_warnings at (Warnings.Refused e) = refused (paper_refusal e)
 
 -- a length, or one more than the largest that is declared where it is over that: sums of it never get large
 unfoldable pub capped : ℕ → ℕ
-capped n = cond (leb n maxBody) n (maxBody + 1)
+capped n = cond (leb n max_body) n (max_body + 1)
 
 -- how long the bytes behind a header are, by the lengths of what is given
-abbrev pub idSize : Header → ℕ → ℕ
-idSize h id = cond (hasId h) id 0
+abbrev pub id_size : Header → ℕ → ℕ
+id_size h id = cond (has_id h) id 0
 
-abbrev pub warningsSize : Header → ℕ → ℕ → ℕ
-warningsSize h text count = cond (hasWarnings h) (2 + count + count + text) 0
+abbrev pub warnings_size : Header → ℕ → ℕ → ℕ
+warnings_size h text count = cond (has_warnings h) (2 + count + count + text) 0
 
-abbrev pub tailSize : Header → ℕ → ℕ → ℕ → ℕ → ℕ
-tailSize h id text count body = warningsSize h text count + idSize h id + body
+abbrev pub tail_size : Header → ℕ → ℕ → ℕ → ℕ → ℕ
+tail_size h id text count body = warnings_size h text count + id_size h id + body
 
 -- what is known of fields that nothing speaks against, with so many bytes behind the header
 pub record Planned (h : Header) (c : Content) (tail : ℕ) : Type 0 where
-  pub check : envelopeCheck h c ≡ fine
+  pub check : envelope_check h c ≡ fine
   pub is : tail ≡ length (tail_bytes h c)

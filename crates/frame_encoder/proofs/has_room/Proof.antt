@@ -3,8 +3,8 @@ use Prim.Native.Nat.{ℕ, ◌+◌}
 use mathlib.Core.Path.{ap}
 use native.Mathlib.Omega.{arith}
 use lib.Dec.{leb}
-use Rattle.segment.specs.Paper.{paperForm}
-use Rattle.segment.proofs.HeaderLaid.{head-most}
+use Rattle.segment.specs.Paper.{paper_form}
+use Rattle.segment.proofs.HeaderLaid.{head_most}
 use borrow.Author.Rules.{rules}
 use Rattle.frame_encoder.proofs.has_room.Statement.{statement}
 use Rattle.frame_encoder.proofs.has_room.Tie as tie
@@ -14,8 +14,8 @@ has-room-spec =
     tie.close
     (tie.spec
     (λ c κs. search rules)
-    (λ c. record { fits = omega (arith, c.header-len.ensures, head-most (paperForm c.before.args.form)) })
-    (λ c. record { fits = omega (arith, c.header-len.ensures, head-most (paperForm c.before.args.form)) })
+    (λ c. record { fits = omega (arith, c.header-len.ensures, head_most (paper_form c.before.args.form)) })
+    (λ c. record { fits = omega (arith, c.header-len.ensures, head_most (paper_form c.before.args.form)) })
     (λ c.
     let a = c.before.args in
     ap (λ (k : ℕ). leb (k + a.payload + 4) a.len) c.header-len.ensures))

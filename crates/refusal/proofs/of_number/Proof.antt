@@ -2,16 +2,16 @@
 use Prim.Native.Nat.{ℕ}
 use mathlib.Core.Path.{◌≡◌, sym, ap, ◌∙◌}
 use mathlib.Core.Option.{some}
-use Rattle.refusal.specs.Refusal.{Refusal, refusalNumber, refusals, refusalOf}
-use Rattle.refusal.proofs.Numbers.{refusalOf-number, apart_none}
+use Rattle.refusal.specs.Refusal.{Refusal, refusal_number, refusals, refusal_of}
+use Rattle.refusal.proofs.Numbers.{refusal_of_number, apart_none}
 use Rattle.refusal.proofs.of_number.Statement.{statement}
 use Rattle.refusal.proofs.of_number.Tie as tie
 
-stands : (e : Refusal) (n : ℕ) → n ≡ refusalNumber e → some e ≡ refusalOf n
-stands e n p = sym (ap refusalOf p ∙ refusalOf-number e)
+stands : (e : Refusal) (n : ℕ) → n ≡ refusal_number e → some e ≡ refusal_of n
+stands e n p = sym (ap refusal_of p ∙ refusal_of_number e)
 
 nothing : tie.Need-returns-18
-unfolding refusalOf
+unfolding refusal_of
 nothing c = sym (apart_none c.before.args.n (Unit {0}) refusals c.match.rest).1
 
 pub of-number-spec : {M : Type 1} → statement M

@@ -3,8 +3,8 @@ use Prim.Native.Nat.{ℕ, ◌%◌, ◌/◌, ◌<◌}
 use mathlib.Core.Path.{sym, ap₂, subst}
 use lib.Dec.{eqb}
 use Rattle.segment.specs.Header.{header, lengths, fields_of}
-use Rattle.segment.specs.Paper.{paperForm}
-use Rattle.segment.proofs.HeaderBits.{weight-positive}
+use Rattle.segment.specs.Paper.{paper_form}
+use Rattle.segment.proofs.HeaderBits.{weight_positive}
 use borrow.Author.Rules.{rules}
 use Rattle.segment.proofs.fields.Statement.{statement}
 use Rattle.segment.proofs.fields.Tie as tie
@@ -16,7 +16,7 @@ fields-spec =
     (tie.spec
     (λ c. search rules)
     (λ c κs. search rules)
-    (λ c. subst (λ (w : ℕ). 0 < w) (sym c.self-weight.ensures) (weight-positive (paperForm c.before.args.form)))
+    (λ c. subst (λ (w : ℕ). 0 < w) (sym c.self-weight.ensures) (weight_positive (paper_form c.before.args.form)))
     (λ c κs. search rules)
     (λ c.
     let a = c.before.before.args in

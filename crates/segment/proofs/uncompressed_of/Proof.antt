@@ -1,7 +1,7 @@
 -- `segment::uncompressed_of` meets its contract: the long form has it. Assumes nothing.
 use mathlib.Core.Path.{sym, ap}
-use Rattle.segment.specs.Header.{uncompressedOf}
-use Rattle.segment.specs.Paper.{paperForm}
+use Rattle.segment.specs.Header.{uncompressed_of}
+use Rattle.segment.specs.Paper.{paper_form}
 use Rattle.segment.specs.declared.Form.{Form}
 use borrow.Author.Rules.{rules}
 use Rattle.segment.proofs.uncompressed_of.Statement.{statement}
@@ -15,4 +15,4 @@ uncompressed-of-spec =
     (λ c. search rules)
     (λ c. search rules)
     (λ c. search rules)
-    (λ c. sym (ap (λ (f : Form). uncompressedOf (paperForm f) c.before.before.args.x) c.enum-told2.given.1)))
+    (λ c. sym (ap (λ (f : Form). uncompressed_of (paper_form f) c.before.before.args.x) c.enum-told2.given.1)))

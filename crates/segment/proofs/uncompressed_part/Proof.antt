@@ -1,7 +1,7 @@
 -- `segment::uncompressed_part` meets its contract: the long form has it. Assumes nothing.
 use mathlib.Core.Path.{sym, ap}
-use Rattle.segment.specs.Header.{uncompressedPart}
-use Rattle.segment.specs.Paper.{paperForm}
+use Rattle.segment.specs.Header.{uncompressed_part}
+use Rattle.segment.specs.Paper.{paper_form}
 use Rattle.segment.specs.declared.Form.{Form}
 use borrow.Author.Rules.{rules}
 use Rattle.segment.proofs.uncompressed_part.Statement.{statement}
@@ -15,4 +15,4 @@ uncompressed-part-spec =
     (λ c. search rules)
     (λ c. search rules)
     (λ c. search rules)
-    (λ c. sym (ap (λ (f : Form). uncompressedPart (paperForm f) c.before.before.args.n) c.enum-told2.given.1)))
+    (λ c. sym (ap (λ (f : Form). uncompressed_part (paper_form f) c.before.before.args.n) c.enum-told2.given.1)))

@@ -3,7 +3,7 @@ use Prim.Native.Nat.{◌-◌}
 use native.Mathlib.Omega.{arith}
 use lib.ListN.{length}
 use Rattle.stream.specs.Private.Turn.{way_of}
-use Rattle.stream.proofs.Turns.{SameLengths, lengths-then, Underway, underway-first, onward_then, onward-over, used-up, used-stopped}
+use Rattle.stream.proofs.Turns.{SameLengths, lengths_then, Underway, underway_first, onward_then, onward_over, used_up_lem, used_stopped}
 use borrow.Author.Rules.{rules}
 use Rattle.stream.proofs.give.Statement.{statement}
 use Rattle.stream.proofs.give.Tie as tie
@@ -25,7 +25,7 @@ from k = (given k).before.before.before.before.before.before.before
 
 kept : (k : tie.After-slice-known8 invariant-loop decreases-loop) → let a = (from k).before.before.before.before.before.before.before.before.args in let t = (given k).use-up.new.1.1 in
     SameLengths a.segment.now a.reassembly.now a.envelopes.now a.marks.now t.0 t.1.0 t.1.1.1.0 t.1.1.1.1.0
-kept k = lengths-then (given k).use-up.auto.1.1 (from k).before.loop.invariant.lengths
+kept k = lengths_then (given k).use-up.auto.1.1 (from k).before.loop.invariant.lengths
 
 -- ---- where the rest was given
 
@@ -41,7 +41,7 @@ give_spec =
     (tie.spec
     invariant-loop
     decreases-loop
-    (λ c. underway-first c.before.before.before.before.before.before.requires)
+    (λ c. underway_first c.before.before.before.before.before.before.requires)
     (λ c. search rules)
     (λ c. search rules)
     (λ c κs. c.before.before.loop.invariant.going.within)
@@ -52,16 +52,16 @@ give_spec =
     (λ c. (kept c.before.before.before).1)
     (λ c. (kept c.before.before.before).2)
     (λ c. (kept c.before.before.before).3)
-    (λ c. let k = c.before.before.before in onward-over (from k).before.loop.invariant.onward (used-stopped _ c.before.c.given.1 (given k).use-up.ensures))
+    (λ c. let k = c.before.before.before in onward_over (from k).before.loop.invariant.onward (used_stopped _ c.before.c.given.1 (given k).use-up.ensures))
     (λ c. let k = c.before.before.before in record { fits = omega (arith, (from k).loop-test.true, (from k).before.before.before.before.before.before.before.before.well-formed.1.1.1.1.0.0) })
     (λ c. omega (arith, (from c.before.before.before).loop-test.taken))
     (λ c.
     let k = c.before.before.before in
-    let m = used-up _ c.before.next.given.1 (given k).use-up.ensures in
+    let m = used_up_lem _ c.before.next.given.1 (given k).use-up.ensures in
     record { lengths = kept k; going = m.going; onward = onward_then (from k).before.loop.invariant.onward m.onward })
     (λ c κs. c.before.before.before.before.before.loop.invariant.going)
-    (λ c. (lengths-then (rest c).give-rest.auto.1 (last c).loop.invariant.lengths).0)
-    (λ c. (lengths-then (rest c).give-rest.auto.1 (last c).loop.invariant.lengths).1)
-    (λ c. (lengths-then (rest c).give-rest.auto.1 (last c).loop.invariant.lengths).2)
-    (λ c. (lengths-then (rest c).give-rest.auto.1 (last c).loop.invariant.lengths).3)
-    (λ c. onward-over (last c).loop.invariant.onward (rest c).give-rest.ensures))
+    (λ c. (lengths_then (rest c).give-rest.auto.1 (last c).loop.invariant.lengths).0)
+    (λ c. (lengths_then (rest c).give-rest.auto.1 (last c).loop.invariant.lengths).1)
+    (λ c. (lengths_then (rest c).give-rest.auto.1 (last c).loop.invariant.lengths).2)
+    (λ c. (lengths_then (rest c).give-rest.auto.1 (last c).loop.invariant.lengths).3)
+    (λ c. onward_over (last c).loop.invariant.onward (rest c).give-rest.ensures))

@@ -2,7 +2,7 @@
 use mathlib.Core.Path.{refl, sym, ◌∙◌}
 use native.Mathlib.Omega.{arith}
 use borrow.Author.Tests.{lt-ltb, le-ltb}
-use Rattle.stream.proofs.Noting.{noted-by}
+use Rattle.stream.proofs.Noting.{noted_by}
 use borrow.Author.Rules.{rules}
 use Rattle.stream.proofs.note.Statement.{statement}
 use Rattle.stream.proofs.note.Tie as tie
@@ -22,7 +22,7 @@ note-spec =
     (λ c.
     let p = c.before.before in
     let f = p.before.before in
-    rw p.put-bytes.ensures (noted-by _ _ _ f.before.before.before.if1.true (lt-ltb _ _ f.before.before.if2.true) (sym f.before.room.ensures.0 ∙ f.if3.true)))
-    (λ c. noted-by _ _ _ c.before.before.before.if1.true (lt-ltb _ _ c.before.before.if2.true) (sym c.before.room.ensures.0 ∙ c.if3.false))
-    (λ c. noted-by _ _ _ c.before.if1.true (le-ltb _ _ c.if2.false) refl)
-    (λ c. noted-by _ _ _ c.if1.false refl refl))
+    rw p.put-bytes.ensures (noted_by _ _ _ f.before.before.before.if1.true (lt-ltb _ _ f.before.before.if2.true) (sym f.before.room.ensures.0 ∙ f.if3.true)))
+    (λ c. noted_by _ _ _ c.before.before.before.if1.true (lt-ltb _ _ c.before.before.if2.true) (sym c.before.room.ensures.0 ∙ c.if3.false))
+    (λ c. noted_by _ _ _ c.before.if1.true (le-ltb _ _ c.if2.false) refl)
+    (λ c. noted_by _ _ _ c.if1.false refl refl))

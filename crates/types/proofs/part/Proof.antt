@@ -3,7 +3,7 @@ use mathlib.Core.Path.{sym, ◌∙◌}
 use borrow.Author.Rules.{rules}
 use native.Mathlib.Omega.{arith}
 use Rattle.types.proofs.BigEndian.{part_of}
-use Rattle.types.proofs.Reading.{bytes-there}
+use Rattle.types.proofs.Reading.{bytes_there}
 use Rattle.types.proofs.part.Statement.{statement}
 use Rattle.types.proofs.part.Tie as tie
 
@@ -20,5 +20,5 @@ part-spec =
     (λ c.
     let a = c.before.before.before.before.args in
     part_of a.bytes.now a.place.start a.place.len
-    ∙ sym (bytes-there _ _ _ (sym c.before.before.room.ensures.0 ∙ c.before.if1.true)))
-    (λ c. sym (bytes-there _ _ _ (sym c.before.before.room.ensures.0 ∙ c.before.if1.false))))
+    ∙ sym (bytes_there _ _ _ (sym c.before.before.room.ensures.0 ∙ c.before.if1.true)))
+    (λ c. sym (bytes_there _ _ _ (sym c.before.before.room.ensures.0 ∙ c.before.if1.false))))

@@ -7,13 +7,13 @@ use borrow.Author.Rules.{rules}
 use native.Mathlib.Omega.{arith}
 use lib.ListN.{length, drop}
 use Rattle.utf8.specs.Utf8.{Want, wants, after}
-use Rattle.utf8.specs.Private.Waiting.{wantOf}
-use Rattle.utf8.proofs.Table.{after_next, utf8-end}
+use Rattle.utf8.specs.Private.Waiting.{want_of}
+use Rattle.utf8.proofs.Table.{after_next, utf8_end}
 use Rattle.utf8.proofs.is_utf8.Statement.{statement}
 use Rattle.utf8.proofs.is_utf8.Tie as tie
 
 abbrev invariant-loop : tie.invariant-loop
-invariant-loop bytes w₀ i₀ w i = after (wants []) bytes ≡ after (wantOf w) (drop i bytes)
+invariant-loop bytes w₀ i₀ w i = after (wants []) bytes ≡ after (want_of w) (drop i bytes)
 
 abbrev decreases-loop : tie.decreases-loop
 decreases-loop bytes w₀ i₀ w i = length bytes - i
@@ -33,7 +33,7 @@ is-utf8-spec =
     let head = c.before.before.before in
     let bytes = head.before.before.args.bytes.now in
     head.loop.invariant
-    ∙ after_next (wantOf head.loop.w) bytes head.loop.i (omega arith)
+    ∙ after_next (want_of head.loop.w) bytes head.loop.i (omega arith)
     ∙ ap (λ (w : Want). after w (drop (head.loop.i + 1) bytes)) (sym c.next.ensures))
     (λ c κs. search rules)
-    (λ c. c.is-first.ensures ∙ sym (utf8-end _ _ _ c.before.loop-test.false c.before.before.loop.invariant)))
+    (λ c. c.is-first.ensures ∙ sym (utf8_end _ _ _ c.before.loop-test.false c.before.before.loop.invariant)))

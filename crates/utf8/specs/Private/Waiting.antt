@@ -8,7 +8,7 @@ unfoldable pub tails : ℕ → List Range
 tails zero = []
 tails (suc n) = tail ∷ tails n
 
-abbrev pub wantOf : Waiting → Want
-wantOf Waiting.First = wants []
-wantOf (Waiting.Tail low high more) = wants (range low high ∷ tails more)
-wantOf Waiting.Never = never
+abbrev pub want_of : Waiting → Want
+want_of Waiting.First = wants []
+want_of (Waiting.Tail low high more) = wants (range low high ∷ tails more)
+want_of Waiting.Never = never

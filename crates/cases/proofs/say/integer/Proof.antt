@@ -1,7 +1,7 @@
 -- `cases::say::integer` is safe: of a negative number the bits turned over are a number that is not negative. Assumes nothing.
 use Rattle.std.proofs.Common.{arith, w64, rules}
 use mir.ValLaws.{of_z_fits}
-use Rattle.types.proofs.Signed.{bits-neg, bits_pos}
+use Rattle.types.proofs.Signed.{bits_neg, bits_pos}
 use Rattle.cases.proofs.say.integer.Statement.{statement}
 use Rattle.cases.proofs.say.integer.Tie as tie
 
@@ -11,7 +11,7 @@ integer-spec =
     (tie.spec
     (λ c.
     let a = c.before.before in
-    rw (bits-neg w64 a.args.x a.ranges.x c.if1.true) (tt, record { fits = omega arith }))
+    rw (bits_neg w64 a.args.x a.ranges.x c.if1.true) (tt, record { fits = omega arith }))
     (λ c κs. search rules)
     (λ c. search rules)
     (λ c κs. search rules)

@@ -1,11 +1,11 @@
 -- `frame::head::has_warnings` meets its contract: the flag says it. Assumes nothing.
-use Rattle.frame.specs.Header.{hasWarnings}
+use Rattle.frame.specs.Header.{has_warnings}
 use borrow.Author.Rules.{rules}
 use Rattle.frame.proofs.head.has_warnings.Statement.{statement}
 use Rattle.frame.proofs.head.has_warnings.Tie as tie
 
 pub has-warnings-spec : {M : Type 1} → statement M
-unfolding hasWarnings
+unfolding has_warnings
 has-warnings-spec =
     tie.close
     (tie.spec

@@ -3,12 +3,12 @@ use mathlib.Core.Path.{sym, ap, ◌∙◌}
 use mathlib.Core.Bool.{Bool, not, ◌&&◌}
 use borrow.Author.Tests.{le-leb, lt-leb}
 use lib.Dec.{eqb}
-use Rattle.frame.specs.Header.{knownOpcode}
+use Rattle.frame.specs.Header.{known_opcode}
 use Rattle.frame.proofs.head.known_opcode.Statement.{statement}
 use Rattle.frame.proofs.head.known_opcode.Tie as tie
 
 pub known-opcode-spec : {M : Type 1} → statement M
-unfolding knownOpcode
+unfolding known_opcode
 known-opcode-spec =
     tie.close
     (tie.spec

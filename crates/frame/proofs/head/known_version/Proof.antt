@@ -3,12 +3,12 @@ use mathlib.Core.Path.{sym, ap, ◌∙◌}
 use mathlib.Core.Bool.{Bool, ◌&&◌}
 use borrow.Author.Tests.{le-leb, lt-leb}
 use lib.Dec.{leb}
-use Rattle.frame.specs.Header.{knownVersion}
+use Rattle.frame.specs.Header.{known_version}
 use Rattle.frame.proofs.head.known_version.Statement.{statement}
 use Rattle.frame.proofs.head.known_version.Tie as tie
 
 pub known-version-spec : {M : Type 1} → statement M
-unfolding knownVersion
+unfolding known_version
 known-version-spec =
     tie.close
     (tie.spec

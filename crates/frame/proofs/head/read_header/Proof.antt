@@ -8,12 +8,12 @@ use lib.ListN.{get_or}
 use mir.Syntax.{w16}
 use mir.Val.{to_z}
 use mir.ValLaws.{to_z-of_z}
-use Rattle.frame.specs.Header.{headerOf}
+use Rattle.frame.specs.Header.{header_of}
 use Rattle.frame.proofs.head.read_header.Statement.{statement}
 use Rattle.frame.proofs.head.read_header.Tie as tie
 
 pub read-header-spec : {M : Type 1} → statement M
-unfolding headerOf
+unfolding header_of
 read-header-spec =
     tie.close
     (tie.spec

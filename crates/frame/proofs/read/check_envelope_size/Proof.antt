@@ -4,9 +4,9 @@ use borrow.Author.Rules.{rules, sfits_of}
 use native.Mathlib.Omega.{arith}
 use mir.Syntax.{w64}
 use mir.ValLaws.{to_z_pos, to_z-of_z}
-use Rattle.frame.specs.Envelope.{sizeNumber}
-use Rattle.frame.specs.Paper.{paperSize}
-use Rattle.frame.proofs.Cases.{size-found}
+use Rattle.frame.specs.Envelope.{size_number}
+use Rattle.frame.specs.Paper.{paper_size}
+use Rattle.frame.proofs.Cases.{size_found}
 use Rattle.frame.proofs.read.check_envelope_size.Statement.{statement}
 use Rattle.frame.proofs.read.check_envelope_size.Tie as tie
 
@@ -20,18 +20,18 @@ check-envelope-size-spec =
     (λ c.
     let told = c.before in
     let size = told.before.before in
-    let f = size-found _ _ (sym size.envelope-size.ensures ∙ ap paperSize told.n.given.1) in
+    let f = size_found _ _ (sym size.envelope-size.ensures ∙ ap paper_size told.n.given.1) in
     record { sfits = omega (arith, f.is, f.room) })
     (λ c. search rules)
     (λ c κs. search rules)
-    (λ c. sym (ap sizeNumber (sym c.before.before.envelope-size.ensures ∙ ap paperSize c.enum_told.given.1)))
+    (λ c. sym (ap size_number (sym c.before.before.envelope-size.ensures ∙ ap paper_size c.enum_told.given.1)))
     (λ c.
     let told = c.before in
     let size = told.before.before in
-    let is = sym size.envelope-size.ensures ∙ ap paperSize told.n.given.1 in
-    let f = size-found _ _ is in
-    to_z_pos w64 told.n.given.0.0 (omega (arith, f.is, f.room)) ∙ sym (ap sizeNumber is))
+    let is = sym size.envelope-size.ensures ∙ ap paper_size told.n.given.1 in
+    let f = size_found _ _ is in
+    to_z_pos w64 told.n.given.0.0 (omega (arith, f.is, f.room)) ∙ sym (ap size_number is))
     (λ c.
     let told = c.before.before in
     let size = told.before.before in
-    to_z-of_z w64 c.minus.result (sfits_of c.minus.type-inv) ∙ c.minus.ensures ∙ sym (ap sizeNumber (sym size.envelope-size.ensures ∙ ap paperSize told.e.given.1))))
+    to_z-of_z w64 c.minus.result (sfits_of c.minus.type-inv) ∙ c.minus.ensures ∙ sym (ap size_number (sym size.envelope-size.ensures ∙ ap paper_size told.e.given.1))))

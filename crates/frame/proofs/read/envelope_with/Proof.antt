@@ -2,9 +2,9 @@
 use mathlib.Core.Path.{ap}
 use mathlib.Core.Bool.{Bool}
 use Prim.Native.Nat.{◌-◌}
-use Rattle.types.specs.Paper.{stringsOf}
+use Rattle.types.specs.Paper.{strings_of}
 use Rattle.types.specs.Read.{place}
-use Rattle.frame.specs.Paper.{paperHeader}
+use Rattle.frame.specs.Paper.{paper_header}
 use borrow.Author.Rules.{rules}
 use Rattle.frame.proofs.read.envelope_with.Statement.{statement}
 use Rattle.frame.proofs.read.envelope_with.Tie as tie
@@ -17,4 +17,4 @@ envelope-with-spec =
     (λ c. search rules)
     (λ c.
     let a = c.before.args in
-    ap (λ (t : Bool). record { size = a.size; header = paperHeader a.header; traced = t; warnings = stringsOf a.warnings; body = place a.at (a.size - a.at) }) c.has-id.ensures))
+    ap (λ (t : Bool). record { size = a.size; header = paper_header a.header; traced = t; warnings = strings_of a.warnings; body = place a.at (a.size - a.at) }) c.has-id.ensures))

@@ -2,9 +2,9 @@
 use mathlib.Core.Path.{sym, ap, ◌∙◌, subst}
 use lib.ListN.{length}
 use Prim.Native.Nat.{ℕ, ◌≤◌, ◌<◌}
-use Rattle.frame.specs.Envelope.{inside, within, readAs, warningsAt}
-use Rattle.frame.specs.Paper.{paperHeader}
-use Rattle.frame.proofs.Cases.{opcode-unknown, id-cut, id-whole, within-is}
+use Rattle.frame.specs.Envelope.{inside, within, read_as, warnings_at}
+use Rattle.frame.specs.Paper.{paper_header}
+use Rattle.frame.proofs.Cases.{opcode_unknown, id_cut, id_whole, within_is}
 use borrow.Author.Rules.{rules}
 use Rattle.frame.proofs.read.read_inside.Statement.{statement}
 use Rattle.frame.proofs.read.read_inside.Tie as tie
@@ -20,7 +20,7 @@ read-inside-spec =
     (λ c.
     let opcoded = c.before.before.before in
     let head = opcoded.before.read-header.ensures in
-    sym (ap (within _) (sym head) ∙ within-is _ _ (id-cut (sym opcoded.known-opcode.ensures ∙ c.before.before.if1.true) (subst (λ (n : ℕ). length opcoded.before.before.before.args.bytes.now < n) c.before.after-id.ensures c.if2.true))))
+    sym (ap (within _) (sym head) ∙ within_is _ _ (id_cut (sym opcoded.known-opcode.ensures ∙ c.before.before.if1.true) (subst (λ (n : ℕ). length opcoded.before.before.before.args.bytes.now < n) c.before.after-id.ensures c.if2.true))))
     (λ c κs. search rules)
     (λ c.
     let opcoded = c.before.before.before.before in
@@ -28,10 +28,10 @@ read-inside-spec =
     let head = opcoded.before.read-header.ensures in
     let at = c.before.before.after-id.ensures in
     c.read-rest.ensures
-    ∙ ap (λ (k : ℕ). readAs (length bytes) (paperHeader opcoded.before.read-header.result) (warningsAt bytes (paperHeader opcoded.before.read-header.result) k)) at
+    ∙ ap (λ (k : ℕ). read_as (length bytes) (paper_header opcoded.before.read-header.result) (warnings_at bytes (paper_header opcoded.before.read-header.result) k)) at
     ∙ sym
     (ap (within bytes) (sym head)
-    ∙ id-whole _ _ (sym opcoded.known-opcode.ensures ∙ c.before.before.before.if1.true) (subst (λ (n : ℕ). n ≤ length bytes) at c.before.if2.false)))
+    ∙ id_whole _ _ (sym opcoded.known-opcode.ensures ∙ c.before.before.before.if1.true) (subst (λ (n : ℕ). n ≤ length bytes) at c.before.if2.false)))
     (λ c.
     let opcoded = c.before in
-    sym (ap (within _) (sym opcoded.before.read-header.ensures) ∙ within-is _ _ (opcode-unknown (sym opcoded.known-opcode.ensures ∙ c.if1.false)))))
+    sym (ap (within _) (sym opcoded.before.read-header.ensures) ∙ within_is _ _ (opcode_unknown (sym opcoded.known-opcode.ensures ∙ c.if1.false)))))

@@ -1,7 +1,7 @@
 -- `frame::read::read_warnings` meets its contract: a list where the header has the flag, and none where it has not. Assumes nothing.
 use mathlib.Core.Path.{sym, ap, ◌∙◌}
-use Rattle.types.specs.Paper.{paperStrings}
-use Rattle.frame.proofs.Cases.{warnings-are}
+use Rattle.types.specs.Paper.{paper_strings}
+use Rattle.frame.proofs.Cases.{warnings_are}
 use borrow.Author.Rules.{rules}
 use Rattle.frame.proofs.read.read_warnings.Statement.{statement}
 use Rattle.frame.proofs.read.read_warnings.Tie as tie
@@ -18,14 +18,14 @@ read-warnings-spec =
     let told = c.before in
     let listed = told.before.before in
     sym
-    (warnings-are _ _ _ (sym listed.before.before.has-warnings.ensures ∙ listed.before.if1.true)
+    (warnings_are _ _ _ (sym listed.before.before.has-warnings.ensures ∙ listed.before.if1.true)
     ∙ sym listed.read-string-list.ensures
-    ∙ ap paperStrings told.walk.given.1))
+    ∙ ap paper_strings told.walk.given.1))
     (λ c.
     let told = c.before in
     let listed = told.before.before in
     sym
-    (warnings-are _ _ _ (sym listed.before.before.has-warnings.ensures ∙ listed.before.if1.true)
+    (warnings_are _ _ _ (sym listed.before.before.has-warnings.ensures ∙ listed.before.if1.true)
     ∙ sym listed.read-string-list.ensures
-    ∙ ap paperStrings told.e.given.1))
-    (λ c. sym (warnings-are _ _ _ (sym c.before.has-warnings.ensures ∙ c.if1.false))))
+    ∙ ap paper_strings told.e.given.1))
+    (λ c. sym (warnings_are _ _ _ (sym c.before.has-warnings.ensures ∙ c.if1.false))))

@@ -3,7 +3,7 @@ use Prim.Native.Nat.{◌+◌}
 use mathlib.Core.Path.{sym, ap, ◌∙◌}
 use mathlib.Core.Bool.{cond}
 use native.Mathlib.Nat.{add-zero}
-use Rattle.frame.specs.Paper.{isResponse}
+use Rattle.frame.specs.Paper.{is_response}
 use Rattle.frame.specs.declared.Direction.{Direction}
 use borrow.Author.Rules.{rules}
 use Rattle.frame.proofs.write.first_byte.Statement.{statement}
@@ -18,5 +18,5 @@ first-byte-spec =
     (λ c. search rules)
     (λ c.
     let v = c.before.before.args.header.version in
-    sym (ap (λ (d : Direction). v + cond (isResponse d) 128 0) c.enum_told.given.1 ∙ add-zero v))
-    (λ c. sym (ap (λ (d : Direction). c.before.before.args.header.version + cond (isResponse d) 128 0) c.enum-told2.given.1)))
+    sym (ap (λ (d : Direction). v + cond (is_response d) 128 0) c.enum_told.given.1 ∙ add-zero v))
+    (λ c. sym (ap (λ (d : Direction). c.before.before.args.header.version + cond (is_response d) 128 0) c.enum-told2.given.1)))

@@ -1,7 +1,7 @@
 -- `frame::write::plus` meets its contract: a sum that is small, or one that is not. Assumes nothing.
 use mathlib.Core.Path.{sym}
 use native.Mathlib.Omega.{arith}
-use Rattle.frame.proofs.Capped.{capped_small, capped-large}
+use Rattle.frame.proofs.Capped.{capped_small, capped_large}
 use borrow.Author.Rules.{rules}
 use Rattle.frame.proofs.write.plus.Statement.{statement}
 use Rattle.frame.proofs.write.plus.Tie as tie
@@ -13,6 +13,6 @@ plus-spec =
     (λ c. search rules)
     (λ c. sym (capped_small c.if2.true))
     (λ c. search rules)
-    (λ c. sym (capped-large c.if2.false))
+    (λ c. sym (capped_large c.if2.false))
     (λ c. search rules)
-    (λ c. sym (capped-large (omega arith))))
+    (λ c. sym (capped_large (omega arith))))

@@ -7,7 +7,7 @@ use mir.Val.{of_z}
 use mir.ValLaws.{to_z-of_z}
 use Rattle.types.specs.Number.{digits}
 use Rattle.types.specs.Write.{put}
-use Rattle.frame.specs.Write.{clearedFlags, headerBytes}
+use Rattle.frame.specs.Write.{cleared_flags, header_bytes}
 use borrow.Author.Rules.{rules}
 use Rattle.frame.proofs.write.put_header.Statement.{statement}
 use Rattle.frame.proofs.write.put_header.Tie as tie
@@ -16,7 +16,7 @@ stream_bits : (c : tie.After-bits16) → c.bits16.result ≡ of_z w16 c.before.b
 stream_bits c = c.bits16.ensures ∙ ap (of_z w16) (to_z-of_z w16 c.before.before.before.before.args.header.stream (search rules))
 
 pub put-header-spec : {M : Type 1} → statement M
-unfolding headerBytes digits put
+unfolding header_bytes digits put
 put-header-spec =
     tie.close
     (tie.spec
@@ -42,4 +42,4 @@ put-header-spec =
     ∙ ap (put a.out.now 0)
     (length.put-number2.ensures
     ∙ ap (λ (l : List ℕ). put l 5 (digits 4 a.n)) stream.put-number.ensures
-    ∙ ap₂ (λ (f s : ℕ). f ∷ clearedFlags a.header.flags ∷ (digits 2 s ++ (a.header.opcode ∷ digits 4 a.n))) first.first_byte.ensures (stream_bits bits))))
+    ∙ ap₂ (λ (f s : ℕ). f ∷ cleared_flags a.header.flags ∷ (digits 2 s ++ (a.header.opcode ∷ digits 4 a.n))) first.first_byte.ensures (stream_bits bits))))

@@ -3,10 +3,10 @@ use Prim.Native.Nat.{ℕ, ◌+◌, ◌≤◌}
 use mathlib.Core.Path.{◌≡◌, refl, sym, ◌∙◌, subst}
 use mathlib.Core.List.{List}
 use lib.ListN.{length}
-use Rattle.frame.specs.Write.{idPart}
-use Rattle.frame.specs.Paper.{paperHeader}
-use Rattle.frame.proofs.Checked.{id-is}
-use Rattle.frame.proofs.Laid.{part-there, part_none}
+use Rattle.frame.specs.Write.{id_part}
+use Rattle.frame.specs.Paper.{paper_header}
+use Rattle.frame.proofs.Checked.{id_is}
+use Rattle.frame.proofs.Laid.{part_there, part_none}
 use borrow.Author.Rules.{rules}
 use Rattle.frame.proofs.write.put_id.Statement.{statement}
 use Rattle.frame.proofs.write.put_id.Tie as tie
@@ -14,8 +14,8 @@ use Rattle.frame.proofs.write.put_id.Tie as tie
 abbrev start : tie.After-has-id → tie.Start
 start c = c.before.before.before
 
-is : (c : tie.Then1) → let s = start c.before in idPart (paperHeader s.args.header) s.args.id.now ≡ s.args.id.now
-is c = id-is _ _ (sym c.before.has-id.ensures ∙ c.if1.true)
+is : (c : tie.Then1) → let s = start c.before in id_part (paper_header s.args.header) s.args.id.now ≡ s.args.id.now
+is c = id_is _ _ (sym c.before.has-id.ensures ∙ c.if1.true)
 
 pub put-id-spec : {M : Type 1} → statement M
 put-id-spec =
@@ -25,5 +25,5 @@ put-id-spec =
     (λ c κs. let s = start c.before.before in subst (λ (l : List ℕ). s.args.at + length l ≤ length s.args.out.now) (is c.before) s.pre)
     (λ c. search rules)
     (λ c. search rules)
-    (λ c. let p = c.before.before in part-there _ _ (is p.before.before) refl p.put-bytes.ensures)
-    (λ c. part_none _ _ (id-is _ _ (sym c.before.has-id.ensures ∙ c.if1.false))))
+    (λ c. let p = c.before.before in part_there _ _ (is p.before.before) refl p.put-bytes.ensures)
+    (λ c. part_none _ _ (id_is _ _ (sym c.before.has-id.ensures ∙ c.if1.false))))

@@ -4,7 +4,7 @@ use mathlib.Core.Path.{sym, ap, ◌∙◌}
 use mathlib.Core.Bool.{Bool, cond}
 use native.Mathlib.Omega.{arith}
 use Rattle.frame.specs.Private.Inside.{capped}
-use Rattle.frame.proofs.Capped.{capped_small, capped-bound, capped-plus}
+use Rattle.frame.proofs.Capped.{capped_small, capped_bound, capped_plus}
 use borrow.Author.Rules.{rules}
 use Rattle.frame.proofs.write.warnings_size.Statement.{statement}
 use Rattle.frame.proofs.write.warnings_size.Tie as tie
@@ -15,15 +15,15 @@ warnings-size-spec =
     (tie.spec
     (λ c κs. search rules)
     (λ c κs. search rules)
-    (λ c κs. capped-bound _ c.plus.ensures)
-    (λ c κs. capped-bound _ c.plus2.ensures)
+    (λ c κs. capped_bound _ c.plus.ensures)
+    (λ c κs. capped_bound _ c.plus2.ensures)
     (λ c.
     let two = c.before in
     let one = two.before in
     let a = one.before.before.before.args in
     c.plus3.ensures
-    ∙ ap (λ (k : ℕ). capped (k + a.text)) (two.plus2.ensures ∙ ap (λ (k : ℕ). capped (k + a.count)) one.plus.ensures ∙ capped-plus (2 + a.count) a.count)
-    ∙ capped-plus (2 + a.count + a.count) a.text
+    ∙ ap (λ (k : ℕ). capped (k + a.text)) (two.plus2.ensures ∙ ap (λ (k : ℕ). capped (k + a.count)) one.plus.ensures ∙ capped_plus (2 + a.count) a.count)
+    ∙ capped_plus (2 + a.count + a.count) a.text
     ∙ sym (ap (λ (t : Bool). capped (cond t (2 + a.count + a.count + a.text) 0)) (sym one.before.before.has-warnings.ensures ∙ one.before.if1.true)))
     (λ c.
     let a = c.before.before.args in

@@ -6,28 +6,28 @@ use mathlib.Core.List.{List}
 use native.Mathlib.Omega.{arith}
 use borrow.Author.Tests.{le-leb, lt-leb}
 use lib.ListN.{length}
-use Rattle.refusal.specs.Refusal.{reassemblyTooShort}
+use Rattle.refusal.specs.Refusal.{reassembly_too_short}
 use Rattle.types.specs.Write.{put}
-use Rattle.frame_decoder.specs.Reader.{Reader, segmentFinished}
-use Rattle.frame_decoder.specs.Settle.{Due, Settled, settled, refusing, readPending, readJoined}
-use Rattle.frame_decoder.specs.Paper.{paperReader}
-use Rattle.frame_decoder.proofs.Parts.{tail-put}
+use Rattle.frame_decoder.specs.Reader.{Reader, segment_finished}
+use Rattle.frame_decoder.specs.Settle.{Due, Settled, settled, refusing, read_pending, read_joined}
+use Rattle.frame_decoder.specs.Paper.{paper_reader}
+use Rattle.frame_decoder.proofs.Parts.{tail_put}
 use borrow.Author.Rules.{rules}
 use Rattle.frame_decoder.proofs.settle.append.Statement.{statement}
 use Rattle.frame_decoder.proofs.settle.append.Tie as tie
 
 -- there is room for it, or not
 module _ (r : Reader) (re p : List ℕ) where
-  by-room : Bool → Settled
-  by-room t = cond t (readPending (segmentFinished r (length p) false) (put re r.pending p) 0) (settled (refusing reassemblyTooShort r) re)
+  by_room : Bool → Settled
+  by_room t = cond t (read_pending (segment_finished r (length p) false) (put re r.pending p) 0) (settled (refusing reassembly_too_short r) re)
 
-  fits : r.pending + length p ≤ length re → readPending (segmentFinished r (length p) false) (put re r.pending p) 0 ≡ readJoined r re p
-  unfolding readJoined by-room
-  fits h = sym (ap by-room (le-leb (r.pending + length p) (length re) h))
+  fits : r.pending + length p ≤ length re → read_pending (segment_finished r (length p) false) (put re r.pending p) 0 ≡ read_joined r re p
+  unfolding read_joined by_room
+  fits h = sym (ap by_room (le-leb (r.pending + length p) (length re) h))
 
-  over : length re < r.pending + length p → settled (refusing reassemblyTooShort r) re ≡ readJoined r re p
-  unfolding readJoined by-room
-  over h = sym (ap by-room (lt-leb (r.pending + length p) (length re) h))
+  over : length re < r.pending + length p → settled (refusing reassembly_too_short r) re ≡ read_joined r re p
+  unfolding read_joined by_room
+  over h = sym (ap by_room (lt-leb (r.pending + length p) (length re) h))
 
 pub append-spec : {M : Type 1} → statement M
 append-spec =
@@ -51,10 +51,10 @@ append-spec =
     let start = roomy.before.before.before in
     let a = start.args in
     c.before.before.from-pending.ensures
-    ∙ ap₂ (λ (x : Reader) (l : List ℕ). readPending x l 0) kept.kept.ensures (tail-put a.reassembly.now a.payload.now a.m.pending put.put-bytes.ensures)
-    ∙ fits (paperReader a.m) a.reassembly.now a.payload.now (omega (arith, roomy.if1.true, start.requires)))
+    ∙ ap₂ (λ (x : Reader) (l : List ℕ). read_pending x l 0) kept.kept.ensures (tail_put a.reassembly.now a.payload.now a.m.pending put.put-bytes.ensures)
+    ∙ fits (paper_reader a.m) a.reassembly.now a.payload.now (omega (arith, roomy.if1.true, start.requires)))
     (λ c κs. search rules)
     (λ c.
     let start = c.before.before.before.before in
     let a = start.args in
-    ap (λ (d : Due). settled d a.reassembly.now) c.refuse.ensures ∙ over (paperReader a.m) a.reassembly.now a.payload.now (omega (arith, c.before.if1.false, start.requires))))
+    ap (λ (d : Due). settled d a.reassembly.now) c.refuse.ensures ∙ over (paper_reader a.m) a.reassembly.now a.payload.now (omega (arith, c.before.if1.false, start.requires))))

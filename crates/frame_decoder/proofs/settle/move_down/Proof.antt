@@ -3,8 +3,8 @@ use Prim.Native.Nat.{ℕ, ◌-◌, ◌≤◌}
 use mathlib.Core.Path.{◌≡◌, refl, sym, ap, ◌∙◌}
 use native.Mathlib.Omega.{arith}
 use lib.ListN.{length, length-set}
-use Rattle.frame_decoder.specs.Settle.{movedDown}
-use Rattle.frame_decoder.proofs.Moved.{moved, moved-next, moved_all, moved_none}
+use Rattle.frame_decoder.specs.Settle.{moved_down}
+use Rattle.frame_decoder.proofs.Moved.{moved, moved_next, moved_all, moved_none}
 use borrow.Author.Rules.{rules}
 use Rattle.frame_decoder.proofs.settle.move_down.Statement.{statement}
 use Rattle.frame_decoder.proofs.settle.move_down.Tie as tie
@@ -23,7 +23,7 @@ move_down_spec =
     decreases-loop
     (λ c.
     let a = c.before.args in
-    moved_none a.buffer.now a.n (omega (arith, c.before.requires)) ∙ ap (λ (k : ℕ). movedDown a.buffer.now k a.n) (sym c.if1.true))
+    moved_none a.buffer.now a.n (omega (arith, c.before.requires)) ∙ ap (λ (k : ℕ). moved_down a.buffer.now k a.n) (sym c.if1.true))
     (λ c. (search rules, refl, refl))
     (λ c. omega arith)
     (λ c. omega arith)
@@ -35,7 +35,7 @@ move_down_spec =
     let a = c.before.before.before.before.args in (
       omega arith,
       simp length-set l.invariant.1,
-      rw l.invariant.2 (moved-next a.buffer.now a.at l.i (omega arith)),
+      rw l.invariant.2 (moved_next a.buffer.now a.at l.i (omega arith)),
     ))
     (λ c. c.before.loop.invariant.1)
     (λ c.

@@ -4,7 +4,7 @@ use mathlib.Core.Path.{◌≡◌, refl, subst, ◌∙◌}
 use native.Mathlib.Omega.{arith}
 use lib.ListN.{length, drop}
 use Rattle.frame_decoder.specs.Call.{work}
-use Rattle.frame_decoder.specs.Paper.{paperReader}
+use Rattle.frame_decoder.specs.Paper.{paper_reader}
 use Rattle.frame_decoder.specs.Private.Inside.{Admitted, TurnIs}
 use Rattle.frame_decoder.specs.declared.work.Turn.{Turn}
 use borrow.Author.Rules.{rules}
@@ -16,8 +16,8 @@ invariant-loop segment₀ reassembly₀ piece m₀ taken₀ segment reassembly m
     (taken ≤ length piece)
     × (length segment ≡ length segment₀)
     × (length reassembly ≡ length reassembly₀)
-    × Admitted (paperReader m) (length segment) (length reassembly)
-    × (work taken (paperReader m) segment reassembly (drop taken piece) ≡ work 0 (paperReader m₀) segment₀ reassembly₀ piece)
+    × Admitted (paper_reader m) (length segment) (length reassembly)
+    × (work taken (paper_reader m) segment reassembly (drop taken piece) ≡ work 0 (paper_reader m₀) segment₀ reassembly₀ piece)
 
 abbrev decreases-loop : tie.decreases-loop
 decreases-loop segment₀ reassembly₀ piece m₀ taken₀ segment reassembly m taken = length piece - taken
@@ -30,10 +30,10 @@ turn t = t.before.before.before
 
 -- what a turn left
 means : (t : Turned) {y : Turn} → t.take-turn.result ≡ y
-    → let l = (turn t).loop in TurnIs y l.taken (paperReader l.m) l.segment l.reassembly (turn t).before.before.before.before.args.piece.now t.take-turn.last.1.1.0 t.take-turn.last.1.1.1.0
+    → let l = (turn t).loop in TurnIs y l.taken (paper_reader l.m) l.segment l.reassembly (turn t).before.before.before.before.args.piece.now t.take-turn.last.1.1.0 t.take-turn.last.1.1.1.0
 means t e =
     let l = (turn t).loop in
-    subst (λ (y : Turn). TurnIs y l.taken (paperReader l.m) l.segment l.reassembly (turn t).before.before.before.before.args.piece.now t.take-turn.last.1.1.0 t.take-turn.last.1.1.1.0) e t.take-turn.ensures
+    subst (λ (y : Turn). TurnIs y l.taken (paper_reader l.m) l.segment l.reassembly (turn t).before.before.before.before.args.piece.now t.take-turn.last.1.1.0 t.take-turn.last.1.1.1.0) e t.take-turn.ensures
 
 pub work-spec : {M : Type 1} → statement M
 work-spec =

@@ -3,7 +3,7 @@ use mathlib.Core.Path.{refl}
 use mathlib.Core.List.{[], ◌∷◌}
 use mir.Syntax.{imm, mut}
 use denote.Triple.Clauses.{at_exit}
-use Rattle.basis.proofs.Thin.{struct-data, enum-data, fields, thin}
+use Rattle.basis.proofs.Thin.{struct_data, enum_data, fields, thin}
 use Rattle.frame_encoder.specs.contracts.FrameEncoder as T
 use Rattle.frame_encoder.proofs.FrameEncoder.TheLaws as T'
 use Rattle.frame_encoder.specs.contracts.Step as S
@@ -21,7 +21,7 @@ pub add-envelope-mut-spec : {M : Type 1} → stated.statement M
 unfolding code.routine
 add-envelope-mut-spec 𝓤 𝓛 𝓜 𝓡 =
     thin 𝓛 𝓜 𝓡 (mut ∷ imm ∷ [])
-    (fields S.the_type S'.the_laws S'.the_plain (struct-data T.the_type T'.the_laws T'.the_plain) (enum-data O.the_type O'.the_laws O'.the_plain tt) 0 1 refl refl
+    (fields S.the_type S'.the_laws S'.the_plain (struct_data T.the_type T'.the_laws T'.the_plain) (enum_data O.the_type O'.the_laws O'.the_plain tt) 0 1 refl refl
     (λ r. r.encoder) (λ r. r.answer) (λ h u. record { encoder = h; answer = u }) (λ r. (refl, refl, refl)) (λ r are. (are.0, are.1.0)))
     (λ κs h a r ws. (step.clauses 𝓛 𝓜.mem 𝓡.run κs (h, a)).ensures tt r (at_exit step.ended κs (h, a) (tt, ws)))
     code.env key.name step-key.name (code.unfolded 𝓤 𝓛.H 𝓜 𝓡) (step_thm.met 𝓤 𝓛 𝓜 𝓡)

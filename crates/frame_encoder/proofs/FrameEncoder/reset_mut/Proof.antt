@@ -1,7 +1,7 @@
 -- `frame_encoder::FrameEncoder::reset_mut` meets its contract: the writer is copied out of its place, `reset` makes the next one of it, and that is stored there. By the law of such functions. Assumes nothing.
 use mathlib.Core.List.{[]}
 use denote.Triple.Clauses.{at_exit}
-use Rattle.basis.proofs.Thin.{struct-data, state-alone, thin}
+use Rattle.basis.proofs.Thin.{struct_data, state_alone, thin}
 use Rattle.frame_encoder.specs.contracts.FrameEncoder as T
 use Rattle.frame_encoder.proofs.FrameEncoder.TheLaws as T'
 use Rattle.frame_encoder.specs.contracts.FrameEncoder.reset as step
@@ -14,6 +14,6 @@ use Rattle.frame_encoder.proofs.FrameEncoder.reset_mut.Code as code
 pub reset-mut-spec : {M : Type 1} → stated.statement M
 unfolding code.routine
 reset-mut-spec 𝓤 𝓛 𝓜 𝓡 =
-    thin 𝓛 𝓜 𝓡 [] (state-alone (struct-data T.the_type T'.the_laws T'.the_plain))
+    thin 𝓛 𝓜 𝓡 [] (state_alone (struct_data T.the_type T'.the_laws T'.the_plain))
     (λ κs h a r ws. (step.clauses 𝓛 𝓜.mem 𝓡.run κs (h, a)).ensures tt r (at_exit step.ended κs (h, a) (tt, ws)))
     code.env key.name step-key.name (code.unfolded 𝓤 𝓛.H 𝓜 𝓡) (step_thm.met 𝓤 𝓛 𝓜 𝓡)

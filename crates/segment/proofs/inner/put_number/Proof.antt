@@ -5,13 +5,13 @@ use borrow.Author.Rules.{rules}
 use native.Mathlib.Omega.{arith}
 use lib.ListN.{length, length-set}
 use Rattle.types.specs.Write.{put}
-use Rattle.segment.specs.LittleEndian.{leDigits}
-use Rattle.segment.proofs.LittleEndian.{put-begin, put_next, put-end}
+use Rattle.segment.specs.LittleEndian.{le_digits}
+use Rattle.segment.proofs.LittleEndian.{put_begin, put_next, put_end}
 use Rattle.segment.proofs.inner.put_number.Statement.{statement}
 use Rattle.segment.proofs.inner.put_number.Tie as tie
 
 abbrev invariant-loop : tie.invariant-loop
-invariant-loop out₀ at n x i₀ rest₀ out i rest = (i ≤ n) × (length out ≡ length out₀) × (put out (at + i) (leDigits (n - i) rest) ≡ put out₀ at (leDigits n x))
+invariant-loop out₀ at n x i₀ rest₀ out i rest = (i ≤ n) × (length out ≡ length out₀) × (put out (at + i) (le_digits (n - i) rest) ≡ put out₀ at (le_digits n x))
 
 abbrev decreases-loop : tie.decreases-loop
 decreases-loop out₀ at n x i₀ rest₀ out i rest = n - i
@@ -22,7 +22,7 @@ put-number-spec =
     (tie.spec
     invariant-loop
     decreases-loop
-    (λ c. (omega arith, refl, put-begin _ _ _ _))
+    (λ c. (omega arith, refl, put_begin _ _ _ _))
     (λ c. search rules)
     (λ c. omega arith)
     (λ c. omega arith)
@@ -35,4 +35,4 @@ put-number-spec =
       put_next head.out c.before.before.args.at c.before.before.args.n head.i head.rest c.loop-test.true (omega arith) ∙ head.invariant.2,
     ))
     (λ c. c.before.loop.invariant.1)
-    (λ c. put-end _ _ _ _ _ c.loop-test.false ∙ c.before.loop.invariant.2))
+    (λ c. put_end _ _ _ _ _ c.loop-test.false ∙ c.before.loop.invariant.2))

@@ -5,9 +5,9 @@ use native.Mathlib.Omega.{arith}
 use native.Mathlib.Nat.{sub_self, zero-lt-suc}
 use lib.ListN.{get_or}
 use Rattle.types.specs.Number.{part}
-use Rattle.types.proofs.BigEndian.{more-below, below-eight}
+use Rattle.types.proofs.BigEndian.{more_below, below_eight}
 use Rattle.segment.specs.LittleEndian.{le}
-use Rattle.segment.proofs.LittleEndian.{le_next, le-none}
+use Rattle.segment.proofs.LittleEndian.{le_next, le_none}
 use Rattle.segment.proofs.inner.read_number.Statement.{statement}
 use Rattle.segment.proofs.inner.read_number.Tie as tie
 
@@ -23,11 +23,11 @@ byte c = omega (arith, c.shared-slice-known.given (c.before.before.before.args.a
 
 one_more : (c : tie.After-shared-slice-known invariant-loop decreases-loop) → let h = c.before.before in
     h.loop.value * 256 + get_or h.before.args.bytes.now (h.before.args.at + (h.loop.left - 1)) 0 < 256 ^ (h.before.args.n - h.loop.left + 1)
-one_more c = more-below (c.before.before.before.args.n - c.before.before.loop.left) c.before.before.loop.invariant.2 (byte c)
+one_more c = more_below (c.before.before.before.args.n - c.before.before.loop.left) c.before.before.loop.invariant.2 (byte c)
 
 small : (c : tie.After-shared-slice-known invariant-loop decreases-loop) → let h = c.before.before in
     h.loop.value * 256 + get_or h.before.args.bytes.now (h.before.args.at + (h.loop.left - 1)) 0 < 2 ^ 64
-small c = below-eight {i = c.before.before.before.args.n - c.before.before.loop.left} (omega arith) (one_more c)
+small c = below_eight {i = c.before.before.before.args.n - c.before.before.loop.left} (omega arith) (one_more c)
 
 pub read-number-spec : {M : Type 1} → statement M
 read-number-spec =
@@ -35,7 +35,7 @@ read-number-spec =
     (tie.spec
     invariant-loop
     decreases-loop
-    (λ c. let a = c.args in (omega arith, le-none a.bytes.now a.at a.n, rw (sub_self a.n) (zero-lt-suc 0)))
+    (λ c. let a = c.args in (omega arith, le_none a.bytes.now a.at a.n, rw (sub_self a.n) (zero-lt-suc 0)))
     (λ c. omega arith)
     (λ c. omega arith)
     (λ c. omega arith)

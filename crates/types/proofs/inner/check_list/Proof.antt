@@ -2,13 +2,13 @@
 use mathlib.Core.Path.{sym, ◌∙◌}
 use borrow.Author.Rules.{rules}
 use borrow.Author.Tests.{le-leb, lt-leb}
-use Rattle.types.specs.Write.{listCheck}
+use Rattle.types.specs.Write.{list_check}
 use Rattle.types.proofs.Put.{demanded, denied}
 use Rattle.types.proofs.inner.check_list.Statement.{statement}
 use Rattle.types.proofs.inner.check_list.Tie as tie
 
 pub check-list-spec : {M : Type 1} → statement M
-unfolding listCheck
+unfolding list_check
 check-list-spec =
     tie.close
     (tie.spec

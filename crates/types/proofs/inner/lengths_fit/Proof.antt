@@ -4,13 +4,13 @@ use mathlib.Core.Path.{◌≡◌, refl, sym, ap, ◌∙◌}
 use borrow.Author.Rules.{rules}
 use native.Mathlib.Omega.{arith}
 use lib.ListN.{length, drop}
-use Rattle.types.specs.Write.{lengthsFit}
-use Rattle.types.proofs.Cut.{cut-lengths, fit-large, fit-over, fit-goes-on, fit-end}
+use Rattle.types.specs.Write.{lengths_fit}
+use Rattle.types.proofs.Cut.{cut_lengths, fit_large, fit_over, fit_goes_on, fit_end}
 use Rattle.types.proofs.inner.lengths_fit.Statement.{statement}
 use Rattle.types.proofs.inner.lengths_fit.Tie as tie
 
 abbrev invariant-loop : tie.invariant-loop
-invariant-loop sum lens left₀ i₀ left i = (i ≤ length lens) × (lengthsFit sum lens ≡ lengthsFit left (drop i lens))
+invariant-loop sum lens left₀ i₀ left i = (i ≤ length lens) × (lengths_fit sum lens ≡ lengths_fit left (drop i lens))
 
 abbrev decreases-loop : tie.decreases-loop
 decreases-loop sum lens left₀ i₀ left i = length lens - i
@@ -26,15 +26,15 @@ lengths-fit-spec =
     (λ c. search rules)
     (λ c.
     let turn = c.before.before in
-    sym (turn.before.loop.invariant.1 ∙ ap (lengthsFit _) (cut-lengths _ _ turn.loop-test.true) ∙ fit-large _ _ _ c.if1.true))
+    sym (turn.before.loop.invariant.1 ∙ ap (lengths_fit _) (cut_lengths _ _ turn.loop-test.true) ∙ fit_large _ _ _ c.if1.true))
     (λ c.
     let turn = c.before.before.before in
-    sym (turn.before.loop.invariant.1 ∙ ap (lengthsFit _) (cut-lengths _ _ turn.loop-test.true) ∙ fit-over _ _ _ c.if2.true))
+    sym (turn.before.loop.invariant.1 ∙ ap (lengths_fit _) (cut_lengths _ _ turn.loop-test.true) ∙ fit_over _ _ _ c.if2.true))
     (λ c. omega arith)
     (λ c. omega arith)
     (λ c.
     let turn = c.before.before.before in (
       omega arith,
-      turn.before.loop.invariant.1 ∙ ap (lengthsFit _) (cut-lengths _ _ turn.loop-test.true) ∙ fit-goes-on _ _ _ c.before.if1.false c.if2.false,
+      turn.before.loop.invariant.1 ∙ ap (lengths_fit _) (cut_lengths _ _ turn.loop-test.true) ∙ fit_goes_on _ _ _ c.before.if1.false c.if2.false,
     ))
-    (λ c. sym (c.before.loop.invariant.1 ∙ fit-end _ _ _ c.loop-test.false)))
+    (λ c. sym (c.before.loop.invariant.1 ∙ fit_end _ _ _ c.loop-test.false)))

@@ -7,7 +7,7 @@ use native.Mathlib.Omega.{arith}
 use lib.ListN.{length, length-set}
 use Rattle.types.specs.Number.{digits}
 use Rattle.types.specs.Write.{put}
-use Rattle.types.proofs.Put.{put-digit, put-zero}
+use Rattle.types.proofs.Put.{put_digit, put_zero}
 use Rattle.types.proofs.inner.put_number.Statement.{statement}
 use Rattle.types.proofs.inner.put_number.Tie as tie
 
@@ -33,7 +33,7 @@ put-number-spec =
     let head = c.before.loop in (
       omega arith,
       simp length-set head.invariant.1,
-      put-digit head.out c.before.before.args.at head.left head.rest c.loop-test.true (omega arith) ∙ head.invariant.2,
+      put_digit head.out c.before.before.args.at head.left head.rest c.loop-test.true (omega arith) ∙ head.invariant.2,
     ))
     (λ c. c.before.loop.invariant.1)
-    (λ c. put-zero _ _ _ _ c.loop-test.false ∙ c.before.loop.invariant.2))
+    (λ c. put_zero _ _ _ _ c.loop-test.false ∙ c.before.loop.invariant.2))

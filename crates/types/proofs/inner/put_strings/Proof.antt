@@ -6,10 +6,10 @@ use borrow.Author.Rules.{rules}
 use native.Mathlib.Omega.{arith}
 use native.Mathlib.Nat.{sub-zero, sub-add-eq}
 use lib.ListN.{length, drop, get_or}
-use Rattle.types.specs.Write.{put, counted, lengthsFit, cutBy, stringsBytes}
+use Rattle.types.specs.Write.{put, counted, lengths_fit, cut_by, strings_bytes}
 use Rattle.types.proofs.BigEndian.{part_of}
-use Rattle.types.proofs.Put.{put-none}
-use Rattle.types.proofs.Cut.{Next, fit_next, bytes-end, part_length, rest-length, put-turn}
+use Rattle.types.proofs.Put.{put_none}
+use Rattle.types.proofs.Cut.{Next, fit_next, bytes_end, part_length, rest_length, put_turn}
 use Rattle.types.proofs.inner.put_strings.Statement.{statement}
 use Rattle.types.proofs.inner.put_strings.Tie as tie
 
@@ -18,9 +18,9 @@ invariant-loop out₀ at text lens to₀ from₀ i₀ out to from i =
     (i ≤ length lens)
     × (from ≤ length text)
     × (length out ≡ length out₀)
-    × (lengthsFit (length text - from) (drop i lens) ≡ true)
-    × (to + length (stringsBytes (cutBy (drop from text) (drop i lens))) ≤ length out)
-    × (put out to (stringsBytes (cutBy (drop from text) (drop i lens))) ≡ put out₀ at (stringsBytes (cutBy text lens)))
+    × (lengths_fit (length text - from) (drop i lens) ≡ true)
+    × (to + length (strings_bytes (cut_by (drop from text) (drop i lens))) ≤ length out)
+    × (put out to (strings_bytes (cut_by (drop from text) (drop i lens))) ≡ put out₀ at (strings_bytes (cut_by text lens)))
 
 abbrev decreases-loop : tie.decreases-loop
 decreases-loop out₀ at text lens to₀ from₀ i₀ out to from i = length lens - i
@@ -37,9 +37,9 @@ fit : (c : tie.In-loop invariant-loop decreases-loop) → Next (length (start c)
 fit c = fit_next _ _ c.loop-test.true _ c.before.loop.invariant.3
 
 rest : (c : tie.In-loop invariant-loop decreases-loop) → let l = c.before.loop in let a = (start c).args in
-    length (stringsBytes (cutBy (drop l.from a.text.now) (drop l.i a.lens.now)))
-    ≡ 2 + next c + length (stringsBytes (cutBy (drop (l.from + next c) a.text.now) (drop (l.i + 1) a.lens.now)))
-rest c = let l = c.before.loop in let a = (start c).args in rest-length a.lens.now l.i c.loop-test.true a.text.now l.from (fit c).within
+    length (strings_bytes (cut_by (drop l.from a.text.now) (drop l.i a.lens.now)))
+    ≡ 2 + next c + length (strings_bytes (cut_by (drop (l.from + next c) a.text.now) (drop (l.i + 1) a.lens.now)))
+rest c = let l = c.before.loop in let a = (start c).args in rest_length a.lens.now l.i c.loop-test.true a.text.now l.from (fit c).within
 
 abbrev turn : tie.After-slice-known2 invariant-loop decreases-loop → tie.In-loop invariant-loop decreases-loop
 turn c = c.before.before.before.before.before.before
@@ -74,9 +74,9 @@ put-strings-spec =
       omega arith,
       rw sub-add-eq f.fits,
       omega (arith, rest t),
-      put-turn a.lens.now l.i t.loop-test.taken a.text.now l.from f.within l.out l.to l.inv.4
+      put_turn a.lens.now l.i t.loop-test.taken a.text.now l.from f.within l.out l.to l.inv.4
           (c.before.before.put-counted.ensures ∙ ap (λ x. put l.out l.to (counted 2 x)) (part_of a.text.now l.from _))
           ∙ l.inv.5,
     ))
     (λ c. c.before.loop.invariant.2)
-    (λ c. sym (put-none _ _) ∙ ap (put _ _) (sym (bytes-end _ _ _ c.loop-test.false)) ∙ c.before.loop.invariant.5))
+    (λ c. sym (put_none _ _) ∙ ap (put _ _) (sym (bytes_end _ _ _ c.loop-test.false)) ∙ c.before.loop.invariant.5))

@@ -8,9 +8,9 @@ use native.Mathlib.Nat.{sub-zero, sub-add-eq}
 use lib.ListN.{length, drop, get_or}
 use Rattle.utf8.specs.Utf8.{utf8}
 use Rattle.types.specs.Number.{part}
-use Rattle.types.specs.Write.{lengthsFit, allUtf8, cutBy}
+use Rattle.types.specs.Write.{lengths_fit, all_utf8, cut_by}
 use Rattle.types.proofs.BigEndian.{part_of}
-use Rattle.types.proofs.Cut.{Next, fit_next, utf8-goes-on, utf8-stops, utf8-end}
+use Rattle.types.proofs.Cut.{Next, fit_next, utf8_goes_on, utf8_stops, utf8_end}
 use Rattle.types.proofs.inner.texts_fit.Statement.{statement}
 use Rattle.types.proofs.inner.texts_fit.Tie as tie
 
@@ -18,8 +18,8 @@ abbrev invariant-loop : tie.invariant-loop
 invariant-loop text lens at₀ i₀ at i =
     (i ≤ length lens)
     × (at ≤ length text)
-    × (lengthsFit (length text - at) (drop i lens) ≡ true)
-    × (allUtf8 (cutBy text lens) ≡ allUtf8 (cutBy (drop at text) (drop i lens)))
+    × (lengths_fit (length text - at) (drop i lens) ≡ true)
+    × (all_utf8 (cut_by text lens) ≡ all_utf8 (cut_by (drop at text) (drop i lens)))
 
 abbrev decreases-loop : tie.decreases-loop
 decreases-loop text lens at₀ i₀ at i = length lens - i
@@ -56,12 +56,12 @@ texts-fit-spec =
     (λ c.
     let t = turn c.before in
     let l = t.before.loop in
-    sym (l.inv.3 ∙ utf8-stops (start t).args.lens.now l.i t.loop-test.taken (start t).args.text.now l.at (tested c.before c.if1.false)))
+    sym (l.inv.3 ∙ utf8_stops (start t).args.lens.now l.i t.loop-test.taken (start t).args.text.now l.at (tested c.before c.if1.false)))
     (λ c. omega arith)
     (λ c. omega arith)
     (λ c.
     let t = turn c.before in
     let l = t.before.loop in
     let f = fit t in
-    (omega arith, omega arith, rw sub-add-eq f.fits, l.inv.3 ∙ utf8-goes-on (start t).args.lens.now l.i t.loop-test.taken (start t).args.text.now l.at (tested c.before c.if1.true)))
-    (λ c. sym (c.before.loop.invariant.3 ∙ utf8-end _ _ _ c.loop-test.false)))
+    (omega arith, omega arith, rw sub-add-eq f.fits, l.inv.3 ∙ utf8_goes_on (start t).args.lens.now l.i t.loop-test.taken (start t).args.text.now l.at (tested c.before c.if1.true)))
+    (λ c. sym (c.before.loop.invariant.3 ∙ utf8_end _ _ _ c.loop-test.false)))

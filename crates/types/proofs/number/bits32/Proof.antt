@@ -3,7 +3,7 @@ use native.Mathlib.Omega.{arith}
 use lib.Arith.{sub-sub_self}
 use mir.Syntax.{w32}
 use mir.ValLaws.{of_z_fits}
-use Rattle.types.proofs.Signed.{turned-below, bits-neg, bits_pos}
+use Rattle.types.proofs.Signed.{turned_below, bits_neg, bits_pos}
 use Rattle.types.proofs.number.bits32.Statement.{statement}
 use Rattle.types.proofs.number.bits32.Tie as tie
 
@@ -11,12 +11,12 @@ pub bits32-spec : {M : Type 1} → statement M
 bits32-spec =
     tie.close
     (tie.spec
-    (λ c. rw (bits-neg w32 c.before.args.x c.before.ranges.x c.if1.true) (tt, record { fits = omega arith }))
+    (λ c. rw (bits_neg w32 c.before.args.x c.before.ranges.x c.if1.true) (tt, record { fits = omega arith }))
     (λ c.
-    rw (bits-neg w32 c.before.args.x c.before.ranges.x c.if1.true)
-    (omega (arith, turned-below w32 c.before.args.x c.before.ranges.x c.if1.true)))
+    rw (bits_neg w32 c.before.args.x c.before.ranges.x c.if1.true)
+    (omega (arith, turned_below w32 c.before.args.x c.before.ranges.x c.if1.true)))
     (λ c. rw (bits_pos w32 c.before.args.x c.before.ranges.x c.if1.false) (tt, of_z_fits w32 c.before.args.x c.before.ranges.x))
     (λ c.
-    rw (bits-neg w32 c.before.args.x c.before.ranges.x c.if1.true)
+    rw (bits_neg w32 c.before.args.x c.before.ranges.x c.if1.true)
     (sub-sub_self (omega (arith, of_z_fits w32 c.before.args.x c.before.ranges.x))))
     (λ c. rw (bits_pos w32 c.before.args.x c.before.ranges.x c.if1.false)))

@@ -2,7 +2,7 @@
 use native.Mathlib.Omega.{arith}
 use mir.Syntax.{w16}
 use borrow.Author.Rules.{rules}
-use Rattle.types.proofs.Signed.{not-not}
+use Rattle.types.proofs.Signed.{not_not}
 use Rattle.types.proofs.number.signed16.Statement.{statement}
 use Rattle.types.proofs.number.signed16.Tie as tie
 
@@ -14,4 +14,4 @@ signed16-spec =
     (λ c. search rules)
     (λ c. search rules)
     (λ c. search rules)
-    (λ c. not-not w16 65535 c.before.args.bits (omega arith)))
+    (λ c. not_not w16 65535 c.before.args.bits (omega arith)))

@@ -2,7 +2,7 @@
 use native.Mathlib.Omega.{arith}
 use mir.Syntax.{w32}
 use borrow.Author.Rules.{rules}
-use Rattle.types.proofs.Signed.{not-not}
+use Rattle.types.proofs.Signed.{not_not}
 use Rattle.types.proofs.number.signed32.Statement.{statement}
 use Rattle.types.proofs.number.signed32.Tie as tie
 
@@ -14,4 +14,4 @@ signed32-spec =
     (λ c. search rules)
     (λ c. search rules)
     (λ c. search rules)
-    (λ c. not-not w32 4294967295 c.before.args.bits (omega arith)))
+    (λ c. not_not w32 4294967295 c.before.args.bits (omega arith)))

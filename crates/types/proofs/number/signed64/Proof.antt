@@ -2,7 +2,7 @@
 use native.Mathlib.Omega.{arith}
 use mir.Syntax.{w64}
 use borrow.Author.Rules.{rules}
-use Rattle.types.proofs.Signed.{not-not}
+use Rattle.types.proofs.Signed.{not_not}
 use Rattle.types.proofs.number.signed64.Statement.{statement}
 use Rattle.types.proofs.number.signed64.Tie as tie
 
@@ -14,4 +14,4 @@ signed64-spec =
     (λ c. search rules)
     (λ c. search rules)
     (λ c. search rules)
-    (λ c. not-not w64 18446744073709551615 c.before.args.bits (omega arith)))
+    (λ c. not_not w64 18446744073709551615 c.before.args.bits (omega arith)))

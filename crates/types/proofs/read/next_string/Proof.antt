@@ -2,8 +2,8 @@
 use mathlib.Core.Path.{sym, ap, ◌∙◌}
 use borrow.Author.Rules.{rules}
 use native.Mathlib.Omega.{arith}
-use Rattle.types.specs.Paper.{paperPart}
-use Rattle.types.proofs.Reading.{step-go, step-stop, step-none}
+use Rattle.types.specs.Paper.{paper_part}
+use Rattle.types.proofs.Reading.{step_go, step_stop, step_none}
 use Rattle.types.proofs.read.next_string.Statement.{statement}
 use Rattle.types.proofs.read.next_string.Tie as tie
 
@@ -11,14 +11,14 @@ pub next-string-spec : {M : Type 1} → statement M
 next-string-spec =
     tie.close
     (tie.spec
-    (λ c. sym (step-none _ _ _ (omega arith)))
+    (λ c. sym (step_none _ _ _ (omega arith)))
     (λ c κs. search rules)
     (λ c. search rules)
     (λ c. search rules)
     (λ c. search rules)
     (λ c.
     sym
-    (step-go _ _ _ (omega arith) (sym c.before.before.before.read-string.ensures ∙ ap paperPart c.before.p.given.1)))
+    (step_go _ _ _ (omega arith) (sym c.before.before.before.read-string.ensures ∙ ap paper_part c.before.p.given.1)))
     (λ c.
     sym
-    (step-stop _ _ _ (omega arith) (sym c.before.before.before.read-string.ensures ∙ ap paperPart c.before.e.given.1))))
+    (step_stop _ _ _ (omega arith) (sym c.before.before.before.read-string.ensures ∙ ap paper_part c.before.e.given.1))))

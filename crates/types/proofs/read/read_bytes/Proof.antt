@@ -4,10 +4,10 @@ use mathlib.Core.Path.{sym, ap, ◌∙◌}
 use borrow.Author.Rules.{rules}
 use mathlib.Core.Option.{some}
 use Rattle.types.specs.Answer.{got}
-use Rattle.types.specs.Private.Inside.{paperCount}
-use Rattle.types.specs.Paper.{paperPart}
-use Rattle.types.specs.Read.{Place, bytes_at, nullableRun}
-use Rattle.types.proofs.Reading.{then-got, then-refused}
+use Rattle.types.specs.Private.Inside.{paper_count}
+use Rattle.types.specs.Paper.{paper_part}
+use Rattle.types.specs.Read.{Place, bytes_at, nullable_run}
+use Rattle.types.proofs.Reading.{then_got, then_refused}
 use Rattle.types.proofs.read.read_bytes.Statement.{statement}
 use Rattle.types.proofs.read.read_bytes.Tie as tie
 
@@ -27,17 +27,17 @@ read-bytes-spec =
     let run = c.before in
     let told = run.before.before.before.before in
     sym
-    (then-got (nullableRun _) (sym told.before.before.read_count.ensures ∙ ap paperCount told.n.given.1)
-    ∙ then-got (λ (p : Place) (next : ℕ). got (some p) next) (sym run.before.before.read-run.ensures ∙ ap paperPart run.p.given.1)))
+    (then_got (nullable_run _) (sym told.before.before.read_count.ensures ∙ ap paper_count told.n.given.1)
+    ∙ then_got (λ (p : Place) (next : ℕ). got (some p) next) (sym run.before.before.read-run.ensures ∙ ap paper_part run.p.given.1)))
     (λ c.
     let run = c.before in
     let told = run.before.before.before.before in
     sym
-    (then-got (nullableRun _) (sym told.before.before.read_count.ensures ∙ ap paperCount told.n.given.1)
-    ∙ then-refused (λ (p : Place) (next : ℕ). got (some p) next) (sym run.before.before.read-run.ensures ∙ ap paperPart run.e.given.1)))
+    (then_got (nullable_run _) (sym told.before.before.read_count.ensures ∙ ap paper_count told.n.given.1)
+    ∙ then_refused (λ (p : Place) (next : ℕ). got (some p) next) (sym run.before.before.read-run.ensures ∙ ap paper_part run.e.given.1)))
     (λ c.
     let told = c.before in
-    sym (then-got (nullableRun _) (sym told.before.before.read_count.ensures ∙ ap paperCount told.next.given.1)))
+    sym (then_got (nullable_run _) (sym told.before.before.read_count.ensures ∙ ap paper_count told.next.given.1)))
     (λ c.
     let told = c.before in
-    sym (then-refused (nullableRun _) (sym told.before.before.read_count.ensures ∙ ap paperCount told.e2.given.1))))
+    sym (then_refused (nullable_run _) (sym told.before.before.read_count.ensures ∙ ap paper_count told.e2.given.1))))

@@ -8,7 +8,7 @@ use mir.Syntax.{w32}
 use mir.Val.{to_z}
 use Rattle.types.specs.Answer.{got}
 use Rattle.types.specs.Read.{natural}
-use Rattle.types.proofs.Reading.{count-read, natural-some, natural-none}
+use Rattle.types.proofs.Reading.{count_read, natural_some, natural_none}
 use Rattle.types.proofs.read.read_count.Statement.{statement}
 use Rattle.types.proofs.read.read_count.Tie as tie
 
@@ -22,11 +22,11 @@ read-count-spec =
     (λ c.
     let next = c.before.before.before.before.before.args.at + 4 in
     ap (λ (n : Option ℕ). got n next)
-    (sym (natural-some w32 c.before.read_number.result c.if2.true) ∙ ap (λ (x : ℕ). natural (to_z w32 x)) c.before.read_number.ensures.0)
-    ∙ sym (count-read _ _ (sym c.before.before.before.room.ensures.0 ∙ c.before.before.if1.true)))
+    (sym (natural_some w32 c.before.read_number.result c.if2.true) ∙ ap (λ (x : ℕ). natural (to_z w32 x)) c.before.read_number.ensures.0)
+    ∙ sym (count_read _ _ (sym c.before.before.before.room.ensures.0 ∙ c.before.before.if1.true)))
     (λ c.
     let next = c.before.before.before.before.before.args.at + 4 in
     ap (λ (n : Option ℕ). got n next)
-    (sym (natural-none w32 c.before.read_number.result c.if2.false) ∙ ap (λ (x : ℕ). natural (to_z w32 x)) c.before.read_number.ensures.0)
-    ∙ sym (count-read _ _ (sym c.before.before.before.room.ensures.0 ∙ c.before.before.if1.true)))
-    (λ c. sym (count-read _ _ (sym c.before.room.ensures.0 ∙ c.if1.false))))
+    (sym (natural_none w32 c.before.read_number.result c.if2.false) ∙ ap (λ (x : ℕ). natural (to_z w32 x)) c.before.read_number.ensures.0)
+    ∙ sym (count_read _ _ (sym c.before.before.before.room.ensures.0 ∙ c.before.before.if1.true)))
+    (λ c. sym (count_read _ _ (sym c.before.room.ensures.0 ∙ c.if1.false))))

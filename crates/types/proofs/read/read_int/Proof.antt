@@ -8,7 +8,7 @@ use mir.Syntax.{w32}
 use mir.Val.{to_z}
 use mir.ValLaws.{to_z-of_z}
 use Rattle.types.specs.Answer.{got}
-use Rattle.types.proofs.Reading.{signed-read}
+use Rattle.types.proofs.Reading.{signed_read}
 use Rattle.types.proofs.read.read_int.Statement.{statement}
 use Rattle.types.proofs.read.read_int.Tie as tie
 
@@ -25,5 +25,5 @@ read-int-spec =
     let next = c.before.before.before.before.before.args.at + 4 in
     ap (λ (z : ℤ). got z next)
     (to_z-of_z w32 c.signed32.result (sfits_of c.signed32.type-inv) ∙ c.signed32.ensures ∙ ap (to_z w32) c.before.read_number.ensures.0)
-    ∙ sym (signed-read 4 _ _ (sym c.before.before.before.room.ensures.0 ∙ c.before.before.if1.true) w32))
-    (λ c. sym (signed-read 4 _ _ (sym c.before.room.ensures.0 ∙ c.if1.false) w32)))
+    ∙ sym (signed_read 4 _ _ (sym c.before.before.before.room.ensures.0 ∙ c.before.before.if1.true) w32))
+    (λ c. sym (signed_read 4 _ _ (sym c.before.room.ensures.0 ∙ c.if1.false) w32)))

@@ -8,7 +8,7 @@ use mir.Syntax.{w64}
 use mir.Val.{to_z}
 use mir.ValLaws.{to_z-of_z}
 use Rattle.types.specs.Answer.{got}
-use Rattle.types.proofs.Reading.{signed-read}
+use Rattle.types.proofs.Reading.{signed_read}
 use Rattle.types.proofs.read.read_long.Statement.{statement}
 use Rattle.types.proofs.read.read_long.Tie as tie
 
@@ -24,5 +24,5 @@ read-long-spec =
     let next = c.before.before.before.before.before.args.at + 8 in
     ap (λ (z : ℤ). got z next)
     (to_z-of_z w64 c.signed64.result (sfits_of c.signed64.type-inv) ∙ c.signed64.ensures ∙ ap (to_z w64) c.before.read_number.ensures.0)
-    ∙ sym (signed-read 8 _ _ (sym c.before.before.before.room.ensures.0 ∙ c.before.before.if1.true) w64))
-    (λ c. sym (signed-read 8 _ _ (sym c.before.room.ensures.0 ∙ c.if1.false) w64)))
+    ∙ sym (signed_read 8 _ _ (sym c.before.before.before.room.ensures.0 ∙ c.before.before.if1.true) w64))
+    (λ c. sym (signed_read 8 _ _ (sym c.before.room.ensures.0 ∙ c.if1.false) w64)))

@@ -2,7 +2,7 @@
 use mathlib.Core.Path.{sym, ◌∙◌}
 use borrow.Author.Rules.{rules}
 use native.Mathlib.Omega.{arith}
-use Rattle.types.proofs.Reading.{run-read}
+use Rattle.types.proofs.Reading.{run_read}
 use Rattle.types.proofs.read.read_run.Statement.{statement}
 use Rattle.types.proofs.read.read_run.Tie as tie
 
@@ -12,5 +12,5 @@ read-run-spec =
     (tie.spec
     (λ c κs. search rules)
     (λ c. omega (arith, c.before.room.ensures.1 c.if1.true))
-    (λ c. sym (run-read _ _ _ (sym c.before.room.ensures.0 ∙ c.if1.true)))
-    (λ c. sym (run-read _ _ _ (sym c.before.room.ensures.0 ∙ c.if1.false))))
+    (λ c. sym (run_read _ _ _ (sym c.before.room.ensures.0 ∙ c.if1.true)))
+    (λ c. sym (run_read _ _ _ (sym c.before.room.ensures.0 ∙ c.if1.false))))

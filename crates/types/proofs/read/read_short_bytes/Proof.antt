@@ -1,14 +1,14 @@
 -- `types::read::read_short_bytes` meets its contract: a count, and behind it the bytes. Assumes nothing.
 use mathlib.Core.Path.{sym, ap, ◌∙◌}
 use borrow.Author.Rules.{rules}
-use Rattle.types.specs.Paper.{paperShort}
-use Rattle.types.specs.Read.{shortBytesAt, run_at}
-use Rattle.types.proofs.Reading.{then-got, then-refused}
+use Rattle.types.specs.Paper.{paper_short}
+use Rattle.types.specs.Read.{short_bytes_at, run_at}
+use Rattle.types.proofs.Reading.{then_got, then_refused}
 use Rattle.types.proofs.read.read_short_bytes.Statement.{statement}
 use Rattle.types.proofs.read.read_short_bytes.Tie as tie
 
 pub read-short-bytes-spec : {M : Type 1} → statement M
-unfolding shortBytesAt
+unfolding short_bytes_at
 read-short-bytes-spec =
     tie.close
     (tie.spec
@@ -19,7 +19,7 @@ read-short-bytes-spec =
     (λ c. search rules)
     (λ c.
     let told = c.before.before in
-    c.read-run.ensures ∙ sym (then-got (run_at _) (sym told.before.before.read_short.ensures ∙ ap paperShort told.n.given.1)))
+    c.read-run.ensures ∙ sym (then_got (run_at _) (sym told.before.before.read_short.ensures ∙ ap paper_short told.n.given.1)))
     (λ c.
     let told = c.before in
-    sym (then-refused (run_at _) (sym told.before.before.read_short.ensures ∙ ap paperShort told.e.given.1))))
+    sym (then_refused (run_at _) (sym told.before.before.read_short.ensures ∙ ap paper_short told.e.given.1))))

@@ -4,7 +4,7 @@ use borrow.Author.Rules.{rules}
 use native.Mathlib.Omega.{arith}
 use Rattle.utf8.specs.Utf8.{utf8}
 use Rattle.types.proofs.BigEndian.{part_of}
-use Rattle.types.proofs.Reading.{text-read}
+use Rattle.types.proofs.Reading.{text_read}
 use Rattle.types.proofs.read.read_text.Statement.{statement}
 use Rattle.types.proofs.read.read_text.Tie as tie
 
@@ -22,12 +22,12 @@ read-text-spec =
     let tested = c.before.before.before in
     let a = tested.before.before.before.args in
     sym
-    (text-read _ _ _ (sym tested.before.room.ensures.0 ∙ tested.if1.true)
+    (text_read _ _ _ (sym tested.before.room.ensures.0 ∙ tested.if1.true)
     (sym (ap utf8 (part_of a.bytes.now a.at a.n)) ∙ sym c.before.is-utf8.ensures ∙ c.if2.true)))
     (λ c.
     let tested = c.before.before.before in
     let a = tested.before.before.before.args in
     sym
-    (text-read _ _ _ (sym tested.before.room.ensures.0 ∙ tested.if1.true)
+    (text_read _ _ _ (sym tested.before.room.ensures.0 ∙ tested.if1.true)
     (sym (ap utf8 (part_of a.bytes.now a.at a.n)) ∙ sym c.before.is-utf8.ensures ∙ c.if2.false)))
-    (λ c. sym (text-read _ _ _ (sym c.before.room.ensures.0 ∙ c.if1.false) refl)))
+    (λ c. sym (text_read _ _ _ (sym c.before.room.ensures.0 ∙ c.if1.false) refl)))

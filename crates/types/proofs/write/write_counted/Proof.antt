@@ -2,7 +2,7 @@
 use mathlib.Core.Path.{sym, ◌∙◌}
 use borrow.Author.Rules.{rules}
 use native.Mathlib.Omega.{arith}
-use Rattle.types.proofs.Put.{length-counted, wrote-all, wrote_none}
+use Rattle.types.proofs.Put.{length_counted, wrote_all, wrote_none}
 use Rattle.types.proofs.write.write_counted.Statement.{statement}
 use Rattle.types.proofs.write.write_counted.Tie as tie
 
@@ -17,5 +17,5 @@ write-counted-spec =
     (λ c. search rules)
     (λ c.
     let tested = c.before.before.before.before in
-    wrote-all _ _ _ _ (length-counted _ _) (sym tested.before.room.ensures.0 ∙ tested.if1.true) c.before.before.put-counted.ensures)
-    (λ c. wrote_none _ _ _ _ (length-counted _ _) (sym c.before.room.ensures.0 ∙ c.if1.false)))
+    wrote_all _ _ _ _ (length_counted _ _) (sym tested.before.room.ensures.0 ∙ tested.if1.true) c.before.before.put-counted.ensures)
+    (λ c. wrote_none _ _ _ _ (length_counted _ _) (sym c.before.room.ensures.0 ∙ c.if1.false)))

@@ -3,7 +3,7 @@ use mathlib.Core.Path.{sym, ◌∙◌}
 use borrow.Author.Rules.{rules}
 use native.Mathlib.Omega.{arith}
 use Rattle.types.proofs.BigEndian.{length_digits}
-use Rattle.types.proofs.Put.{wrote-all, wrote_none}
+use Rattle.types.proofs.Put.{wrote_all, wrote_none}
 use Rattle.types.proofs.write.write_number.Statement.{statement}
 use Rattle.types.proofs.write.write_number.Tie as tie
 
@@ -17,5 +17,5 @@ write-number-spec =
     (λ c. search rules)
     (λ c.
     let tested = c.before.before.before.before in
-    wrote-all _ _ _ _ (length_digits _ _) (sym tested.before.room.ensures.0 ∙ tested.if1.true) c.before.before.put-number.ensures)
+    wrote_all _ _ _ _ (length_digits _ _) (sym tested.before.room.ensures.0 ∙ tested.if1.true) c.before.before.put-number.ensures)
     (λ c. wrote_none _ _ _ _ (length_digits _ _) (sym c.before.room.ensures.0 ∙ c.if1.false)))

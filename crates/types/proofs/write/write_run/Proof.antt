@@ -2,7 +2,7 @@
 use mathlib.Core.Path.{refl, sym, ◌∙◌}
 use borrow.Author.Rules.{rules}
 use native.Mathlib.Omega.{arith}
-use Rattle.types.proofs.Put.{wrote-all, wrote_none}
+use Rattle.types.proofs.Put.{wrote_all, wrote_none}
 use Rattle.types.proofs.write.write_run.Statement.{statement}
 use Rattle.types.proofs.write.write_run.Tie as tie
 
@@ -16,5 +16,5 @@ write-run-spec =
     (λ c. search rules)
     (λ c.
     let tested = c.before.before.before.before in
-    wrote-all _ _ _ _ refl (sym tested.before.room.ensures.0 ∙ tested.if1.true) c.before.before.put-bytes.ensures)
+    wrote_all _ _ _ _ refl (sym tested.before.room.ensures.0 ∙ tested.if1.true) c.before.before.put-bytes.ensures)
     (λ c. wrote_none _ _ _ _ refl (sym c.before.room.ensures.0 ∙ c.if1.false)))

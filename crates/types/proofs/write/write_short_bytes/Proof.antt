@@ -3,8 +3,8 @@ use borrow.Author.Rules.{rules}
 use native.Mathlib.Omega.{arith}
 use lib.ListN.{length}
 use borrow.Author.Tests.{le-leb, lt-leb}
-use Rattle.types.specs.Write.{maxShort}
-use Rattle.types.proofs.Put.{demanded, denied, wrote-fine, wrote-against}
+use Rattle.types.specs.Write.{max_short}
+use Rattle.types.proofs.Put.{demanded, denied, wrote_fine, wrote_against}
 use Rattle.types.proofs.write.write_short_bytes.Statement.{statement}
 use Rattle.types.proofs.write.write_short_bytes.Tie as tie
 
@@ -17,7 +17,7 @@ write-short-bytes-spec =
     (λ c.
     let tested = c.before.before.before.before in
     let t = tested.before.before.before.args.bytes.now in
-    wrote-fine (demanded _ _ (le-leb (length t) maxShort (omega (arith, tested.if1.true)))) c.before.before.write-counted.ensures)
+    wrote_fine (demanded _ _ (le-leb (length t) max_short (omega (arith, tested.if1.true)))) c.before.before.write-counted.ensures)
     (λ c.
     let t = c.before.before.before.args.bytes.now in
-    wrote-against (denied _ _ (lt-leb (length t) maxShort (omega arith)))))
+    wrote_against (denied _ _ (lt-leb (length t) max_short (omega arith)))))
