@@ -1,4 +1,6 @@
 // Answers what each line of standard input asks, a line for a line. README.md beside src/ has the shapes of a line.
+#![tactic(auto)]
+
 use cases::say::{Out, Page};
 use cases::words::Number;
 use cases::{input, say, words};

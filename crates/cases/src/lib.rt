@@ -1,4 +1,5 @@
 // What programs share: standard input, the words of a case, the words of an answer, and what is told where reading or writing fails.
+#![tactic(auto)]
 
 pub mod input;
 pub mod say;

@@ -1,4 +1,6 @@
 // Writes both checks of what it reads from standard input, in pieces as they come.
+#![tactic(auto)]
+
 use cases::input::Piece;
 use cases::say::{Out, Page};
 use cases::{input, say, tell, words};

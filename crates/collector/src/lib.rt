@@ -1,5 +1,7 @@
 // What a Rust host links, by the C convention (docs/RULES.md, 2.5). A static library holds the exported functions of one crate, so all of them
 // stand here.
+#![tactic(auto)]
+
 ghost use Rattle.std.specs.Prelude.{◌≡◌};
 ghost use Rattle.crc.specs.Check24.{crc24 as checkOf24};
 ghost use Rattle.crc.specs.Check32.{crc32 as checkOf32};

@@ -1,4 +1,6 @@
 // The two checks of a segment (docs/RULES.md, section 2), bit by bit.
+#![tactic(auto)]
+
 mod bits24;
 mod bits32;
 

@@ -1,5 +1,7 @@
 // Envelopes of the native protocol (the v5 document, section 2): measured, read and written in lent bytes.
 // `specs/Paper.antt` says what each case of an answer means.
+#![tactic(auto)]
+
 use refusal::Refusal;
 use types::{Place, Walk};
 

@@ -1,5 +1,7 @@
 // The stream reader: a value that goes into each call and comes back changed, over two lent buffers. One answer a call.
 // `specs/Paper.antt` says what each case of a state or an answer means.
+#![tactic(auto)]
+
 ghost use Rattle.std.specs.Prelude.{◌≡◌};
 ghost use Rattle.types.specs.Paper.{place_of};
 ghost use Rattle.segment.specs.Paper.{paper_form};

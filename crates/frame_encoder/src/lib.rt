@@ -1,5 +1,7 @@
 // The segment writer: a value that goes into each call and comes back changed, over a lent output.
 // `specs/Paper.antt` says what each case of an answer means.
+#![tactic(auto)]
+
 ghost use Rattle.std.specs.Prelude.{◌≡◌, ◌+◌, ◌≤◌, ltb, leb, length};
 ghost use Rattle.types.specs.Number.{part};
 ghost use Rattle.types.specs.Paper.{paper_writable};

@@ -1,5 +1,7 @@
 // What the comparison with the Rust original links (oracle/): the library's calls, by the C convention. Values go in and come back as words, each at
 // a place that the function says; a word past the end of a list is 0 when read and nowhere when written.
+#![tactic(auto)]
+
 use crc::{crc24, crc32};
 use frame::read::check_envelope_size;
 

@@ -1,4 +1,6 @@
 // Lists what a stream of short segments on standard input holds, a line for each answer of the reader (docs/RULES.md 12).
+#![tactic(auto)]
+
 ghost use Rattle.std.specs.Prelude.{◌≤◌};
 
 use cases::input::Piece;

@@ -1,5 +1,7 @@
 // Gives the stream of each line of standard input to a reader in pieces, and writes what was written down of it, a line for a line. README.md beside src/
 // has the shape of a line.
+#![tactic(auto)]
+
 use cases::say::{Out, Page};
 use cases::words::Number;
 use cases::{input, say, words};

@@ -1,4 +1,6 @@
 // Why a call was refused: a case for each number of docs/RULES.md, section 9.
+#![tactic(auto)]
+
 ghost use Rattle.std.specs.Prelude.{◌≡◌};
 ghost use Rattle.refusal.specs.Refusal.{number_of, refusal_of, paper_numbered};
 

@@ -1,4 +1,6 @@
 // A segment's header in its two forms (the v5 document, Framing), fields and bytes, and the payload behind it.
+#![tactic(auto)]
+
 ghost use Rattle.std.specs.Prelude.{◌≡◌, cond, ◌≤◌, length};
 ghost use Rattle.segment.specs.Header.{number_length, header_length, self_weight, uncompressed_of, uncompressed_part, fields_of, header_number};
 ghost use Rattle.segment.specs.Segment.{checked, header_at, behind, payload_at};

@@ -1,5 +1,7 @@
 // A caller who gives a whole stream to a reader in pieces and writes down what it hears; above it, in specs/ and proofs/, what a stream means and that the pieces don't matter.
 // `specs/Paper.antt` says what each case of an answer means.
+#![tactic(auto)]
+
 ghost use Rattle.std.specs.Prelude.{◌≡◌, ◌+◌, ◌≤◌, min, length};
 ghost use Rattle.segment.specs.Paper.{paper_form};
 ghost use Rattle.frame_decoder.specs.Reader.{counts_of};

@@ -1,5 +1,7 @@
 // The notations of the native protocol (the v5 document, section 3), read and written at a position of lent bytes.
 // `specs/Paper.antt` says what each case of an answer means.
+#![tactic(auto)]
+
 ghost use Rattle.std.specs.Prelude.{◌≡◌};
 ghost use Rattle.types.specs.Read.{bytes_in};
 ghost use Rattle.types.specs.Paper.{place_of};

@@ -1,4 +1,6 @@
 // UTF-8 as RFC 3629, section 4, has it.
+#![tactic(auto)]
+
 ghost use Rattle.std.specs.Prelude.{◌≡◌};
 ghost use Rattle.utf8.specs.Utf8.{begin, rows, step, whole, utf8};
 ghost use Rattle.utf8.specs.Private.Waiting.{want_of};
