@@ -1,0 +1,17 @@
+-- `types::inner::put_number` meets its contract: writing the bytes that are left gives what writing all of them would. Assumes nothing.
+use Prim.Native.Nat.{◌≤◌}
+use mathlib.Core.Path.{◌≡◌, refl, ◌∙◌}
+use borrow.Author.Rules.{rules}
+use native.Mathlib.Nat.{le_refl}
+use native.Mathlib.Omega.{arith}
+use lib.ListN.{length, length-set}
+use Rattle.types.specs.Number.{digits}
+use Rattle.types.specs.Write.{put}
+use Rattle.types.proofs.Put.{put_digit, put_zero}
+use Rattle.types.proofs.inner.put_number.Given as goal
+
+abbrev pub invariant-loop-left : goal.invariant-loop-left
+invariant-loop-left l = (l.left ≤ l.n) × (length l.out ≡ length l.initial.out) × (put l.out l.at (digits l.left l.rest) ≡ put l.initial.out l.at (digits l.n l.x))
+
+abbrev pub decreases-loop-left : goal.decreases-loop-left
+decreases-loop-left l = l.left
