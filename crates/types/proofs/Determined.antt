@@ -7,7 +7,7 @@ use mathlib.Core.List.{List}
 use mathlib.Core.Option.{none, some}
 use mir.Syntax.{w16, w32, w64}
 use mir.Val.{to_z, of_z}
-use denote.Ref.{Bor}
+use denote.Ref.{Bor, MutBor}
 use Rattle.basis.specs.Determined.{Determined, DeterminedAs}
 use Rattle.basis.proofs.Determined.{Tells, by_equation, by_sight, by_meaning, told_apart}
 use Rattle.types.specs.Number.{digits}
@@ -128,7 +128,7 @@ Outcome = Written × List ℕ
 
 abbrev pub DeterminedWriter {ℓ} :
     {Lifetimes : Type ℓ} {Others OthersLeft : Lifetimes → Type 0}
-    → ((κs : Lifetimes) → Bor (List ℕ) × Others κs → Written → Bor (List ℕ) × OthersLeft κs → Type 0) → Type ℓ
+    → ((κs : Lifetimes) → MutBor (List ℕ) × Others κs → Written → MutBor (List ℕ) × OthersLeft κs → Type 0) → Type ℓ
 DeterminedWriter Ensures = DeterminedAs {Seen = Outcome} (λ κs r e. (r, e.0.now)) Ensures
 
 pub by_wrote {ℓ} :

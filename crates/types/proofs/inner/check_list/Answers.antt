@@ -1,6 +1,5 @@
 -- `types::inner::check_list` meets its contract: the counts are tested before the texts. Assumes nothing.
 use mathlib.Core.Path.{sym, ◌∙◌}
-use borrow.Author.Rules.{rules}
 use borrow.Author.Tests.{le-leb, lt-leb}
 use Rattle.types.specs.Write.{list_check}
 use Rattle.types.proofs.Put.{demanded, denied}

@@ -1,12 +1,8 @@
 -- `types::inner::put_bytes` meets its contract: what was passed is copied, and the rest stands. Assumes nothing.
 use Prim.Native.Nat.{◌≤◌, ◌-◌}
-use mathlib.Core.Path.{◌≡◌, refl, ◌∙◌}
-use borrow.Author.Rules.{rules}
-use native.Mathlib.Numerals.{add-one}
-use native.Mathlib.Omega.{arith}
-use lib.ListN.{length, length-set}
-use lib.Seq.{paste, paste-zero, paste-suc}
-use Rattle.types.proofs.Put.{paste_all}
+use mathlib.Core.Path.{◌≡◌}
+use lib.ListN.{length}
+use lib.Seq.{paste}
 use Rattle.types.proofs.inner.put_bytes.Given as goal
 
 abbrev pub invariant-loop-i : goal.invariant-loop-i

@@ -1,5 +1,4 @@
 -- `types::inner::put_counted` meets its contract: the bytes begin where their count ends. Assumes nothing.
-use borrow.Author.Rules.{rules}
 use native.Mathlib.Omega.{arith}
 use lib.ListN.{length}
 use Rattle.types.specs.Number.{digits}

@@ -1,7 +1,6 @@
 -- `types::inner::put_list` meets its contract: the strings begin where their count ends. Assumes nothing.
 use Prim.Native.Nat.{ℕ}
 use mathlib.Core.Path.{sym, ap, ◌∙◌}
-use borrow.Author.Rules.{rules}
 use native.Mathlib.Omega.{arith}
 use lib.ListN.{length}
 use Rattle.types.specs.Number.{digits}
@@ -16,9 +15,9 @@ unfolding list_bytes
 put_number-requires c = let a = c.args in
     omega (arith, list_apart (cut_by a.text.now a.lens.now))
 
-pub overflow_add-at : goal.overflow_add-at
+pub put_strings-requires : goal.put_strings-requires
 unfolding list_bytes
-overflow_add-at c = let a = c.args in
+put_strings-requires c = let a = c.args in
     (c.requires.0, omega (arith, list_apart (cut_by a.text.now a.lens.now)))
 
 pub returns : goal.returns

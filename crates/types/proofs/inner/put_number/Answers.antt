@@ -1,12 +1,8 @@
 -- `types::inner::put_number` meets its contract: writing the bytes that are left gives what writing all of them would. Assumes nothing.
-use Prim.Native.Nat.{◌≤◌}
-use mathlib.Core.Path.{◌≡◌, refl, ◌∙◌}
-use borrow.Author.Rules.{rules}
+use mathlib.Core.Path.{refl, ◌∙◌}
 use native.Mathlib.Nat.{le_refl}
 use native.Mathlib.Omega.{arith}
-use lib.ListN.{length, length-set}
-use Rattle.types.specs.Number.{digits}
-use Rattle.types.specs.Write.{put}
+use lib.ListN.{length-set}
 use Rattle.types.proofs.Put.{put_digit, put_zero}
 use Rattle.types.proofs.inner.put_number.Goals as goal
 
@@ -16,9 +12,6 @@ loop-left-init c = (le_refl _, refl, refl)
 pub overflow_sub-left : goal.overflow_sub-left
 overflow_sub-left c = omega arith
 
-pub overflow_cast-out : goal.overflow_cast-out
-overflow_cast-out c = omega arith
-
 pub overflow_add-out : goal.overflow_add-out
 overflow_add-out c = omega arith
 
@@ -26,14 +19,14 @@ pub bounds-out-at : goal.bounds-out-at
 bounds-out-at c = omega arith
 
 pub loop-left-smaller : goal.loop-left-smaller
-loop-left-smaller c = let head = c.loop-left in (
+loop-left-smaller c = omega arith
+
+pub loop-left-preserved : goal.loop-left-preserved
+loop-left-preserved c = let head = c.loop-left in (
   omega arith,
   simp length-set head.invariant.1,
   put_digit head.out c.args.at head.left head.rest c.loop-left-test.true (omega arith) ∙ head.invariant.2,
 )
-
-pub loop-left-preserved : goal.loop-left-preserved
-loop-left-preserved c = c.loop-left.invariant.1
 
 pub returns : goal.returns
 returns c = put_zero _ _ _ _ c.loop-left-test.false ∙ c.loop-left.invariant.2

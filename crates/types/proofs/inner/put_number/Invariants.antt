@@ -1,13 +1,9 @@
 -- `types::inner::put_number` meets its contract: writing the bytes that are left gives what writing all of them would. Assumes nothing.
 use Prim.Native.Nat.{◌≤◌}
-use mathlib.Core.Path.{◌≡◌, refl, ◌∙◌}
-use borrow.Author.Rules.{rules}
-use native.Mathlib.Nat.{le_refl}
-use native.Mathlib.Omega.{arith}
-use lib.ListN.{length, length-set}
+use mathlib.Core.Path.{◌≡◌}
+use lib.ListN.{length}
 use Rattle.types.specs.Number.{digits}
 use Rattle.types.specs.Write.{put}
-use Rattle.types.proofs.Put.{put_digit, put_zero}
 use Rattle.types.proofs.inner.put_number.Given as goal
 
 abbrev pub invariant-loop-left : goal.invariant-loop-left

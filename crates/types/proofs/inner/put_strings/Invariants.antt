@@ -1,15 +1,9 @@
 -- `types::inner::put_strings` meets its contract: writing the strings to come gives what writing all of them would. Assumes nothing.
-use Prim.Native.Nat.{ℕ, ◌≤◌, ◌-◌, ◌+◌}
-use mathlib.Core.Path.{◌≡◌, refl, sym, ap, ◌∙◌}
+use Prim.Native.Nat.{◌≤◌, ◌-◌, ◌+◌}
+use mathlib.Core.Path.{◌≡◌}
 use mathlib.Core.Bool.{true}
-use borrow.Author.Rules.{rules}
-use native.Mathlib.Omega.{arith}
-use native.Mathlib.Nat.{sub-zero, sub-add-eq}
-use lib.ListN.{length, drop, get_or}
-use Rattle.types.specs.Write.{put, counted, lengths_fit, cut_by, strings_bytes}
-use Rattle.types.proofs.BigEndian.{part_of}
-use Rattle.types.proofs.Put.{put_none}
-use Rattle.types.proofs.Cut.{Next, fit_next, bytes_end, part_length, rest_length, put_turn}
+use lib.ListN.{length, drop}
+use Rattle.types.specs.Write.{put, lengths_fit, cut_by, strings_bytes}
 use Rattle.types.proofs.inner.put_strings.Given as goal
 
 abbrev pub invariant-loop-i : goal.invariant-loop-i

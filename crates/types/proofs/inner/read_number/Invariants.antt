@@ -1,11 +1,7 @@
 -- `types::inner::read_number` meets its contract: the value is the number of the bytes passed, which so many bytes hold. Assumes nothing.
-use Prim.Native.Nat.{◌≤◌, ◌<◌, ◌-◌, ◌+◌, ◌*◌, ◌^◌}
-use mathlib.Core.Path.{◌≡◌, refl}
-use borrow.Author.Rules.{rules}
-use native.Mathlib.Omega.{arith}
-use lib.ListN.{get_or}
-use Rattle.types.specs.Number.{be, be_from, part}
-use Rattle.types.proofs.BigEndian.{be_part_suc, more_below, below_eight}
+use Prim.Native.Nat.{◌≤◌, ◌<◌, ◌-◌, ◌^◌}
+use mathlib.Core.Path.{◌≡◌}
+use Rattle.types.specs.Number.{be, part}
 use Rattle.types.proofs.inner.read_number.Given as goal
 
 abbrev pub invariant-loop-i : goal.invariant-loop-i

@@ -1,6 +1,5 @@
 -- `types::read::next_string` meets its contract: none is left, or the first of them is read. Assumes nothing.
 use mathlib.Core.Path.{sym, ap, ◌∙◌}
-use borrow.Author.Rules.{rules}
 use native.Mathlib.Omega.{arith}
 use Rattle.types.specs.Paper.{paper_part}
 use Rattle.types.proofs.Reading.{step_go, step_stop, step_none}

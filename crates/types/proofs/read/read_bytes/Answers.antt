@@ -1,7 +1,6 @@
 -- `types::read::read_bytes` meets its contract: a count, null by its sign, and behind it the bytes. Assumes nothing.
 use Prim.Native.Nat.{ℕ}
 use mathlib.Core.Path.{sym, ap, ◌∙◌}
-use borrow.Author.Rules.{rules}
 use mathlib.Core.Option.{some}
 use Rattle.types.specs.Answer.{got}
 use Rattle.types.specs.Private.Inside.{paper_count}

@@ -1,7 +1,6 @@
 -- `types::read::read_count` meets its contract: the first bit is the sign. Assumes nothing.
 use Prim.Native.Nat.{ℕ, ◌+◌}
 use mathlib.Core.Path.{sym, ap, ◌∙◌}
-use borrow.Author.Rules.{rules}
 use native.Mathlib.Omega.{arith}
 use mathlib.Core.Option.{Option}
 use mir.Syntax.{w32}

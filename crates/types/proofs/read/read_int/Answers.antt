@@ -1,7 +1,7 @@
 -- `types::read::read_int` meets its contract: there is room for the bytes, whose sign is read, or there is none. Assumes nothing.
 use Prim.Native.Nat.{◌+◌}
 use mathlib.Core.Path.{sym, ap, ◌∙◌}
-use borrow.Author.Rules.{rules, sfits_of}
+use borrow.Author.Rules.{sfits_of}
 use native.Mathlib.Omega.{arith}
 use lib.IntN.{ℤ}
 use mir.Syntax.{w32}
@@ -20,7 +20,7 @@ overflow_add-next c = omega (arith, c.room.ensures.1 c.if-room.true)
 pub returns-then-room : goal.returns-then-room
 returns-then-room c = let next = c.args.at + 4 in
     ap (λ (z : ℤ). got z next)
-    (to_z-of_z w32 c.signed32-z.result (sfits_of c.signed32-z.type-inv) ∙ c.signed32-z.ensures ∙ ap (to_z w32) c.read_number-x.ensures.0)
+    (to_z-of_z w32 c.signed32-z.result (sfits_of c.signed32-z.type_inv) ∙ c.signed32-z.ensures ∙ ap (to_z w32) c.read_number-x.ensures.0)
     ∙ sym (signed_read 4 _ _ (sym c.room.ensures.0 ∙ c.if-room.true) w32)
 
 pub returns-else-room : goal.returns-else-room

@@ -1,6 +1,5 @@
 -- `types::read::read_long_string` meets its contract: a count, its sign, and behind it the text. Assumes nothing.
 use mathlib.Core.Path.{sym, ap, ◌∙◌}
-use borrow.Author.Rules.{rules}
 use Rattle.types.specs.Private.Inside.{paper_count}
 use Rattle.types.specs.Read.{long_string_at, long_text}
 use Rattle.types.proofs.Reading.{then_got, then_refused}

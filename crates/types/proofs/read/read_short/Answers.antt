@@ -1,7 +1,6 @@
 -- `types::read::read_short` meets its contract: there is room for the bytes, or there is none. Assumes nothing.
 use Prim.Native.Nat.{ℕ, ◌+◌}
 use mathlib.Core.Path.{sym, ap, ◌∙◌}
-use borrow.Author.Rules.{rules}
 use native.Mathlib.Omega.{arith}
 use Rattle.types.specs.Answer.{got}
 use Rattle.types.proofs.Reading.{number_read}

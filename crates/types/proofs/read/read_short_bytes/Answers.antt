@@ -1,6 +1,5 @@
 -- `types::read::read_short_bytes` meets its contract: a count, and behind it the bytes. Assumes nothing.
 use mathlib.Core.Path.{sym, ap, ◌∙◌}
-use borrow.Author.Rules.{rules}
 use Rattle.types.specs.Paper.{paper_short}
 use Rattle.types.specs.Read.{short_bytes_at, run_at}
 use Rattle.types.proofs.Reading.{then_got, then_refused}

@@ -1,6 +1,5 @@
 -- `types::read::read_string` meets its contract: a count, and behind it the text. Assumes nothing.
 use mathlib.Core.Path.{sym, ap, ◌∙◌}
-use borrow.Author.Rules.{rules}
 use Rattle.types.specs.Paper.{paper_short}
 use Rattle.types.specs.Read.{string_at, text_at}
 use Rattle.types.proofs.Reading.{then_got, then_refused}

@@ -1,6 +1,5 @@
 -- `types::read::read_string_list` meets its contract: a count, and behind it so many strings. Assumes nothing.
 use mathlib.Core.Path.{sym, ap, ◌∙◌}
-use borrow.Author.Rules.{rules}
 use Rattle.types.specs.Private.Inside.{paper_end}
 use Rattle.types.specs.Paper.{paper_short}
 use Rattle.types.specs.Read.{string_list_at, listed}

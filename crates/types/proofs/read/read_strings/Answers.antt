@@ -1,10 +1,7 @@
 -- `types::read::read_strings` meets its contract: what is left to read ends as the whole does. Assumes nothing.
-use mathlib.Core.Path.{◌≡◌, refl, sym, ap, ◌∙◌}
-use borrow.Author.Rules.{rules}
+use mathlib.Core.Path.{refl, sym, ap, ◌∙◌}
 use native.Mathlib.Omega.{arith}
 use Rattle.types.specs.Paper.{paper_part}
-use Rattle.types.specs.Private.Inside.{end_of}
-use Rattle.types.specs.Read.{strings_at}
 use Rattle.types.proofs.Reading.{strings_go, strings_stop, strings_none}
 use Rattle.types.proofs.read.read_strings.Goals as goal
 

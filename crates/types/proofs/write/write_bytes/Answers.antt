@@ -1,5 +1,4 @@
 -- `types::write::write_bytes` meets its contract: the count is tested before the room. Assumes nothing.
-use borrow.Author.Rules.{rules}
 use native.Mathlib.Omega.{arith}
 use lib.ListN.{length}
 use borrow.Author.Tests.{le-leb, lt-leb}

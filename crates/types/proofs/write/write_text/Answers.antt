@@ -1,6 +1,5 @@
 -- `types::write::write_text` meets its contract: the check comes first. Assumes nothing.
 use mathlib.Core.Path.{sym, ap, ◌∙◌}
-use borrow.Author.Rules.{rules}
 use Rattle.types.specs.Paper.{paper_writable}
 use Rattle.types.proofs.Put.{wrote_fine, wrote_against}
 use Rattle.types.proofs.write.write_text.Goals as goal
