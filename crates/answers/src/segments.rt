@@ -14,7 +14,7 @@ fn say_added(page: &mut Page, out: Out, answer: Encoded) -> Out {
 }
 
 // The writer, with what was said of what it added.
-#[derive(Drop)]
+#[derive(Clone, Copy)]
 struct Packing {
     encoder: FrameEncoder,
     out: Out,

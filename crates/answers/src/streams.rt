@@ -9,7 +9,7 @@ use segment::Form;
 use types::Place;
 
 // Where the next call begins to read, where the piece in hand ends, and how many pieces are to be used up with it.
-#[derive(Drop)]
+#[derive(Clone, Copy)]
 struct Cursor {
     start: usize,
     end: usize,

@@ -4,7 +4,7 @@ use crate::words::Number;
 use libc::STDIN_FILENO;
 
 // What a read brought: so many bytes at the front of the buffer, the input's end, or a failure.
-#[derive(Drop)]
+#[derive(Clone, Copy)]
 pub enum Piece {
     Bytes(usize),
     End,
@@ -24,7 +24,7 @@ pub fn read(buffer: &mut [u8]) -> Piece {
 }
 
 // Whether the input stands whole at the front of a buffer, and how long it is.
-#[derive(Drop)]
+#[derive(Clone, Copy)]
 enum Input {
     Whole(usize),
     TooLong,

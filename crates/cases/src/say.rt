@@ -9,7 +9,7 @@ pub const PAGE_LEN: usize = 4096;
 pub type Page = [u8; PAGE_LEN];
 
 // How many bytes at the front of the page are still to be written, and whether all before them could be. It goes along with its page.
-#[derive(Drop)]
+#[derive(Clone, Copy)]
 pub struct Out {
     filled: usize,
     pub sound: bool,

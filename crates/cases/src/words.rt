@@ -1,20 +1,20 @@
 // The words of a line, the items of a word, and what they stand for.
 
-#[derive(Drop)]
+#[derive(Clone, Copy)]
 pub enum Number {
     Value(usize),
     Missing,
 }
 
 // A number below zero is given by how far it lies below -1, which every such number of 64 bits has.
-#[derive(Drop)]
+#[derive(Clone, Copy)]
 pub enum Signed {
     Plus(usize),
     Minus(usize),
     Missing,
 }
 
-#[derive(Drop)]
+#[derive(Clone, Copy)]
 pub enum Hex {
     Byte(u8),
     Missing,

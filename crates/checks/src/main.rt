@@ -6,13 +6,13 @@ use cases::say::{Out, Page};
 use cases::{input, say, tell, words};
 use crc::{Running24, Running32};
 
-#[derive(Drop)]
+#[derive(Clone, Copy)]
 struct Sums {
     header: Running24,
     payload: Running32,
 }
 
-#[derive(Drop)]
+#[derive(Clone, Copy)]
 enum Step {
     More(Sums),
     End(Sums),

@@ -54,7 +54,7 @@ pub fn crc24(bytes: &[u8]) -> u32
 }
 
 // The check of bytes that come in parts: start, more for each part, finish.
-#[derive(Drop)]
+#[derive(Clone, Copy)]
 pub struct Running24 {
     pub value: u32,
 }

@@ -29,14 +29,14 @@ pub const BETA: u8 = 0x10;
 
 pub const MAX_FLAGS: u8 = 0x1f;
 
-#[derive(Drop)]
+#[derive(Clone, Copy)]
 pub enum Direction {
     Request,
     Response,
 }
 
 // What a header says, but for the body's length. Version and opcode are any numbers, and a writer refuses unknown ones.
-#[derive(Drop)]
+#[derive(Clone, Copy)]
 pub struct Header {
     pub version: u8,
     pub direction: Direction,
@@ -46,7 +46,7 @@ pub struct Header {
 }
 
 // How long an envelope is, with its header.
-#[derive(Drop)]
+#[derive(Clone, Copy)]
 pub enum Size {
     Incomplete,
     Whole(usize),
@@ -55,7 +55,7 @@ pub enum Size {
 
 // An envelope as it was read. Its places are counted from its first byte: they are the same wherever it stands. If it is traced, its tracing id stands
 // behind the header. Its warnings are walked along as any strings are, by `types::read::next_string`.
-#[derive(Drop)]
+#[derive(Clone, Copy)]
 pub struct Envelope {
     pub size: usize,
     pub header: Header,
@@ -64,7 +64,7 @@ pub struct Envelope {
     pub body: Place,
 }
 
-#[derive(Drop)]
+#[derive(Clone, Copy)]
 pub enum Reading {
     Incomplete,
     Whole(Envelope),

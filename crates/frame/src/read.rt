@@ -66,7 +66,7 @@ fn after_id(header: Header) -> usize
     HEADER_LEN + len
 }
 
-#[derive(Drop)]
+#[derive(Clone, Copy)]
 enum Warnings {
     Absent,
     List(Walk, usize),

@@ -37,7 +37,7 @@ pub fn in_range(segment_len: usize, reassembly_len: usize) -> bool
 }
 
 // What a reader is about.
-#[derive(Drop)]
+#[derive(Clone, Copy)]
 pub enum Phase {
     // So many bytes of a header are there.
     Header {
@@ -62,7 +62,7 @@ pub enum Phase {
 }
 
 // The form, the lengths of the two buffers that it was made for, how many bytes are pending, and the phase. Plain data: a forged one has its answer too.
-#[derive(Drop)]
+#[derive(Clone, Copy)]
 pub struct FrameDecoder {
     pub form: Form,
     pub segment_len: usize,
@@ -71,13 +71,13 @@ pub struct FrameDecoder {
     pub phase: Phase,
 }
 
-#[derive(Drop)]
+#[derive(Clone, Copy)]
 pub enum Buffer {
     Segment,
     Reassembly,
 }
 
-#[derive(Drop)]
+#[derive(Clone, Copy)]
 pub enum Answer {
     // In which buffer, where and how long, and its reading. The place stands until the next call.
     Envelope(Buffer, Place, Envelope),
@@ -88,13 +88,13 @@ pub enum Answer {
 }
 
 // An answer, and how many bytes of the piece the call took.
-#[derive(Drop)]
+#[derive(Clone, Copy)]
 pub struct Heard {
     pub answer: Answer,
     pub taken: usize,
 }
 
-#[derive(Drop)]
+#[derive(Clone, Copy)]
 pub struct Step {
     pub reader: FrameDecoder,
     pub heard: Heard,

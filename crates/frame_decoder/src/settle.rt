@@ -21,7 +21,7 @@ use types::Place;
 use types::inner::put_bytes;
 
 // An answer and the reader behind it, or a reader that waits for bytes.
-#[derive(Drop)]
+#[derive(Clone, Copy)]
 pub(crate) enum Due {
     Answered(Answer, FrameDecoder),
     Waits(FrameDecoder),

@@ -90,7 +90,7 @@ fn fill(m: FrameDecoder, segment: &mut [u8], bytes: &[u8]) -> usize
 }
 
 // What one turn leaves: the call's step, or a reader to go on with and how many bytes were taken so far.
-#[derive(Drop)]
+#[derive(Clone, Copy)]
 enum Turn {
     Done(Step),
     On(FrameDecoder, usize),

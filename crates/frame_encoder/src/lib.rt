@@ -18,20 +18,20 @@ use segment::{Form, Header, MAX_PAYLOAD, TRAILER_LEN};
 use types::{Writable, inner};
 
 // The form, and the length of the payload so far.
-#[derive(Drop)]
+#[derive(Clone, Copy)]
 pub struct FrameEncoder {
     pub form: Form,
     pub payload: usize,
 }
 
 // How many bytes were written, and of what was given how many went in.
-#[derive(Drop)]
+#[derive(Clone, Copy)]
 pub enum Encoded {
     Wrote(usize, usize),
     Refused(Refusal),
 }
 
-#[derive(Drop)]
+#[derive(Clone, Copy)]
 pub struct Step {
     pub encoder: FrameEncoder,
     pub answer: Encoded,

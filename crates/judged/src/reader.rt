@@ -134,7 +134,7 @@ pub extern "C" fn judged_stream_part<'a>(
 
 // State: form, the two lengths, pending, then the phase: its name and up to three numbers. Fewer than eight words are no state, nor are those in which
 // one stands for no form, for no phase, for no refusal, or neither for yes nor for no.
-#[derive(Drop)]
+#[derive(Clone, Copy)]
 enum Stated {
     Reader(FrameDecoder),
     Nothing,

@@ -37,7 +37,7 @@ fn say_answer(page: &mut Page, out: Out, answer: Answer) -> Out {
 }
 
 // What is to be done after an answer: call again with the rest of the piece, read another piece, or nothing more.
-#[derive(Drop)]
+#[derive(Clone, Copy)]
 enum Next {
     Rest,
     Piece,
@@ -54,7 +54,7 @@ fn after(answer: Answer) -> Next {
 }
 
 // The stream goes on, or all of its lines are said.
-#[derive(Drop)]
+#[derive(Clone, Copy)]
 enum Stream {
     On(FrameDecoder, Out),
     Over(Out),

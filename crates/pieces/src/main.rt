@@ -11,7 +11,7 @@ use stream::collect;
 mod outcome;
 
 // The form, and the lengths of the two buffers and the two outputs.
-#[derive(Drop)]
+#[derive(Clone, Copy)]
 struct Case {
     form: Form,
     segment: usize,
@@ -20,7 +20,7 @@ struct Case {
     marks: usize,
 }
 
-#[derive(Drop)]
+#[derive(Clone, Copy)]
 enum Opened {
     Is(Case),
     Missing,

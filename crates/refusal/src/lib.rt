@@ -4,7 +4,7 @@
 ghost use Rattle.std.specs.Prelude.{◌≡◌};
 ghost use Rattle.refusal.specs.Refusal.{number_of, refusal_of, paper_numbered};
 
-#[derive(Drop)]
+#[derive(Clone, Copy)]
 pub enum Refusal {
     // A lent length or a count in the state that was handed in is out of its range.
     Inadmissible,
@@ -70,7 +70,7 @@ impl Refusal {
 }
 
 // What a number stands for.
-#[derive(Drop)]
+#[derive(Clone, Copy)]
 pub enum Numbered {
     Stands(Refusal),
     Nothing,

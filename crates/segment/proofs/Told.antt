@@ -3,7 +3,7 @@ use mathlib.Core.Path.{refl, ap}
 use Rattle.basis.specs.Front.{incomplete, refuses, whole}
 use Rattle.basis.proofs.Determined.{Tells}
 use Rattle.refusal.proofs.Numbers.{case_of, case_of_paper}
-use Rattle.segment.specs.Header.{Form, short, long}
+use Rattle.segment.specs.Header.{short, long}
 use Rattle.segment.specs.Segment.{Segment}
 use Rattle.segment.specs.Paper.{paper_form, paper_header, paper_read_header, paper_read_payload}
 use Rattle.segment.specs.declared.Form as code-form

@@ -21,14 +21,14 @@ pub const CHECK_LEN: usize = 3;
 pub const TRAILER_LEN: usize = 4;
 
 // Fixed for a connection, and not to be told from the bytes.
-#[derive(Drop)]
+#[derive(Clone, Copy)]
 pub enum Form {
     Short,
     Long,
 }
 
 // What a header says. The short form has no length before compression.
-#[derive(Drop)]
+#[derive(Clone, Copy)]
 pub struct Header {
     pub payload: u32,
     pub uncompressed: u32,
@@ -36,7 +36,7 @@ pub struct Header {
 }
 
 // A header at the front of some bytes.
-#[derive(Drop)]
+#[derive(Clone, Copy)]
 pub enum ReadHeader {
     Incomplete,
     Whole(Header),
@@ -44,7 +44,7 @@ pub enum ReadHeader {
 }
 
 // The payload behind a header, and its check.
-#[derive(Drop)]
+#[derive(Clone, Copy)]
 pub enum ReadPayload {
     Incomplete,
     Whole,

@@ -18,14 +18,14 @@ use segment::Form;
 use types::inner;
 
 // How many answers were written down, how many bytes of envelopes, and whether that is all.
-#[derive(Drop)]
+#[derive(Clone, Copy)]
 pub struct Notes {
     pub answers: usize,
     pub bytes: usize,
     pub complete: bool,
 }
 
-#[derive(Drop)]
+#[derive(Clone, Copy)]
 pub enum End {
     // The refusal, and how many bytes were taken up to it.
     Refused(Refusal, usize),
@@ -33,7 +33,7 @@ pub enum End {
     Held(usize, usize),
 }
 
-#[derive(Drop)]
+#[derive(Clone, Copy)]
 pub struct Collected {
     pub notes: Notes,
     pub end: End,
@@ -70,7 +70,7 @@ fn note(notes: Notes, envelopes: &mut [u8], marks: &mut [usize], bytes: &[u8], m
 // ---- the loop
 
 // A caller on its way: the reader, how many bytes of the stream were taken, and what was written down.
-#[derive(Drop)]
+#[derive(Clone, Copy)]
 struct Progress {
     reader: FrameDecoder,
     taken: usize,
@@ -78,14 +78,14 @@ struct Progress {
 }
 
 // What a piece leaves: it is used up, or the reader has stopped.
-#[derive(Drop)]
+#[derive(Clone, Copy)]
 enum Used {
     Up(Progress),
     Stopped(Collected),
 }
 
 // What one call leaves: another answer to hear, or what its piece leaves.
-#[derive(Drop)]
+#[derive(Clone, Copy)]
 enum Turn {
     On(Progress),
     Done(Used),

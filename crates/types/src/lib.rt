@@ -19,65 +19,65 @@ pub const MAX_SHORT: usize = 65_535;
 pub const MAX_INT: usize = 2_147_483_647;
 
 // Where some bytes stand in lent ones.
-#[derive(Drop)]
+#[derive(Clone, Copy)]
 pub struct Place {
     pub start: usize,
     pub len: usize,
 }
 
 // Strings that are still to be walked along: how many, and where the first of them begins.
-#[derive(Drop)]
+#[derive(Clone, Copy)]
 pub struct Walk {
     pub left: u16,
     pub at: usize,
 }
 
 // What reading a notation finds: its value and the position behind it, or why not.
-#[derive(Drop)]
+#[derive(Clone, Copy)]
 pub enum ReadByte {
     Value(u8, usize),
     Refused(Refusal),
 }
 
-#[derive(Drop)]
+#[derive(Clone, Copy)]
 pub enum ReadShort {
     Value(u16, usize),
     Refused(Refusal),
 }
 
-#[derive(Drop)]
+#[derive(Clone, Copy)]
 pub enum ReadInt {
     Value(i32, usize),
     Refused(Refusal),
 }
 
-#[derive(Drop)]
+#[derive(Clone, Copy)]
 pub enum ReadLong {
     Value(i64, usize),
     Refused(Refusal),
 }
 
-#[derive(Drop)]
+#[derive(Clone, Copy)]
 pub enum ReadPart {
     Part(Place, usize),
     Refused(Refusal),
 }
 
-#[derive(Drop)]
+#[derive(Clone, Copy)]
 pub enum ReadBytes {
     Null(usize),
     Part(Place, usize),
     Refused(Refusal),
 }
 
-#[derive(Drop)]
+#[derive(Clone, Copy)]
 pub enum ReadStrings {
     Strings(Walk, usize),
     Refused(Refusal),
 }
 
 // A step along some strings: a text with those behind it, or the position behind the last.
-#[derive(Drop)]
+#[derive(Clone, Copy)]
 pub enum Walked {
     Text(Place, Walk),
     End(usize),
@@ -85,14 +85,14 @@ pub enum Walked {
 }
 
 // Whether something may be written where there is room for it.
-#[derive(Drop)]
+#[derive(Clone, Copy)]
 pub enum Writable {
     Yes,
     No(Refusal),
 }
 
 // The position behind what was written, or why nothing was.
-#[derive(Drop)]
+#[derive(Clone, Copy)]
 pub enum Written {
     Next(usize),
     Refused(Refusal),

@@ -61,7 +61,7 @@ pub fn read_long(bytes: &[u8], at: usize) -> ReadLong
 }
 
 // An [int] that counts bytes; its sign is its first bit.
-#[derive(Drop)]
+#[derive(Clone, Copy)]
 enum Count {
     Bytes(usize, usize),
     Negative(usize),
@@ -160,7 +160,7 @@ pub fn read_bytes(bytes: &[u8], at: usize) -> ReadBytes
 }
 
 // Where the last of some strings ends.
-#[derive(Drop)]
+#[derive(Clone, Copy)]
 enum End {
     At(usize),
     Refused(Refusal),

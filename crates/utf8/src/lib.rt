@@ -7,7 +7,7 @@ ghost use Rattle.utf8.specs.Private.Waiting.{want_of};
 
 // What is still to come of a character: nothing, so that a first byte may come; or a byte from low to high and then `more` bytes
 // from 80 to bf; or nothing can make it one.
-#[derive(Drop)]
+#[derive(Clone, Copy)]
 enum Waiting {
     First,
     Tail { low: u8, high: u8, more: u8 },
