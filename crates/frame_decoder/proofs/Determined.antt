@@ -34,6 +34,6 @@ held_determined = by_equation (λ κs a. held (paper_reader a.0))
 pub read_determined : DeterminedAs {Seen = Seen} (λ κs r e. (r, (e.1.0.now, e.1.1.0.now))) reads.Post
 read_determined = record { same = λ κs a r s e f p q. step_apart r s e.1.0.now e.1.1.0.now f.1.0.now f.1.1.0.now (p ∙ sym q) }
 
-pub consume_determined : DeterminedLent lents.ended (λ M. lents.clauses) {Seen = Lent} (λ κs r e. ((e.0.now, r), (e.1.0.now, e.1.1.0.now)))
+pub consume_determined : DeterminedLent lents.ended (λ M 𝓤. lents.clauses) {Seen = Lent} (λ κs r e. ((e.0.now, r), (e.1.0.now, e.1.1.0.now)))
 consume_determined =
     record { Claim = _; own = λ M 𝓤 𝓛 at_mem run κs a g r e. refl; decides = record { same = λ κs a r s e f p q. lent_apart _ _ _ _ _ _ _ _ (p ∙ sym q) } }

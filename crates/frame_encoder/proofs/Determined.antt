@@ -4,7 +4,7 @@ use Prim.Native.Nat.{ℕ}
 use mathlib.Core.Path.{◌≡◌, refl, sym, ◌∙◌}
 use mathlib.Core.List.{List}
 use lib.Dec.{ltb}
-use denote.Ref.{Bor}
+use denote.Ref.{MutBor}
 use Rattle.basis.specs.Determined.{Determined, DeterminedAs, DeterminedLent}
 use Rattle.basis.proofs.Determined.{by_equation, by_meaning, told_apart}
 use Rattle.segment.specs.Paper.{paper_form}
@@ -39,7 +39,7 @@ reset_determined = by_meaning encoder_told (λ κs a. fresh (paper_form a.0.form
 -- the output is lent second
 by_step {ℓ} :
     {Lifetimes : Type ℓ} {Arguments First Others : Lifetimes → Type 0} (does : (κs : Lifetimes) → Arguments κs → Done)
-    → DeterminedAs {Answer = λ κs. Step} {Exit = λ κs. First κs × (Bor (List ℕ) × Others κs)} {Seen = Outcome} (λ κs r e. (r, e.1.0.now)) (λ κs a r e. paper_step r e.1.0.now ≡ does κs a)
+    → DeterminedAs {Answer = λ κs. Step} {Exit = λ κs. First κs × (MutBor (List ℕ) × Others κs)} {Seen = Outcome} (λ κs r e. (r, e.1.0.now)) (λ κs a r e. paper_step r e.1.0.now ≡ does κs a)
 by_step does = record { same = λ κs a r s e f p q. told_apart outcome_told (r, e.1.0.now) (s, f.1.0.now) (p ∙ sym q) }
 
 pub add_envelope_determined : DeterminedAs {Seen = Outcome} (λ κs r e. (r, e.1.0.now)) adds.Post
@@ -52,18 +52,18 @@ pub finalize_non_self_contained_determined : DeterminedAs {Seen = Outcome} (λ �
 finalize_non_self_contained_determined = by_step (λ κs a. piece (paper_writer a.0) a.1.0.now a.1.1.0.now)
 
 -- Of those that take the writer by reference, the writer too.
-pub reset_mut_determined : DeterminedLent lent-resets.ended (λ M. lent-resets.clauses) (λ κs r e. e.0.now)
+pub reset_mut_determined : DeterminedLent lent-resets.ended (λ M 𝓤. lent-resets.clauses) (λ κs r e. e.0.now)
 reset_mut_determined =
     record { Claim = _; own = λ M 𝓤 𝓛 at_mem run κs a g r e. refl; decides = record { same = λ κs a r s e f p q. told_apart encoder_told _ _ (p ∙ sym q) } }
 
-pub add_envelope_mut_determined : DeterminedLent lent-adds.ended (λ M. lent-adds.clauses) {Seen = Lent} (λ κs r e. ((e.0.now, r), e.1.0.now))
+pub add_envelope_mut_determined : DeterminedLent lent-adds.ended (λ M 𝓤. lent-adds.clauses) {Seen = Lent} (λ κs r e. ((e.0.now, r), e.1.0.now))
 add_envelope_mut_determined =
     record { Claim = _; own = λ M 𝓤 𝓛 at_mem run κs a g r e. refl; decides = record { same = λ κs a r s e f p q. told_apart lent_told _ _ (p ∙ sym q) } }
 
-pub finalize_self_contained_mut_determined : DeterminedLent lent-finishes.ended (λ M. lent-finishes.clauses) {Seen = Lent} (λ κs r e. ((e.0.now, r), e.1.0.now))
+pub finalize_self_contained_mut_determined : DeterminedLent lent-finishes.ended (λ M 𝓤. lent-finishes.clauses) {Seen = Lent} (λ κs r e. ((e.0.now, r), e.1.0.now))
 finalize_self_contained_mut_determined =
     record { Claim = _; own = λ M 𝓤 𝓛 at_mem run κs a g r e. refl; decides = record { same = λ κs a r s e f p q. told_apart lent_told _ _ (p ∙ sym q) } }
 
-pub finalize_non_self_contained_mut_determined : DeterminedLent lent-pieces.ended (λ M. lent-pieces.clauses) {Seen = Lent} (λ κs r e. ((e.0.now, r), e.1.0.now))
+pub finalize_non_self_contained_mut_determined : DeterminedLent lent-pieces.ended (λ M 𝓤. lent-pieces.clauses) {Seen = Lent} (λ κs r e. ((e.0.now, r), e.1.0.now))
 finalize_non_self_contained_mut_determined =
     record { Claim = _; own = λ M 𝓤 𝓛 at_mem run κs a g r e. refl; decides = record { same = λ κs a r s e f p q. told_apart lent_told _ _ (p ∙ sym q) } }
