@@ -58,12 +58,12 @@ fn answer_all(page: &mut Page, out: Out, input: &[u8]) -> Out {
     said
 }
 
-fn main() {
+fn main(rt: HostRuntime) {
     let mut lines = room::lines();
-    let Number::Value(n) = input::read_whole(b"answers", &mut lines) else {
+    let Number::Value(n) = input::read_whole(rt.stdin(), rt.stderr(), b"answers", &mut lines) else {
         return;
     };
-    let mut page = say::new_page();
+    let mut page = say::new_page(rt.stdout());
     let said = answer_all(&mut page, say::start(), words::front(&lines, n));
-    say::close(&page, said, b"answers");
+    say::close(&page, said, rt.stderr(), b"answers");
 }

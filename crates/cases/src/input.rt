@@ -1,7 +1,7 @@
 // Standard input, in pieces as they come or whole.
 use crate::tell;
 use crate::words::Number;
-use libc::STDIN_FILENO;
+use std::io::{Read, Stderr, Stdin};
 
 // What a read brought: so many bytes at the front of the buffer, the input's end, or a failure.
 #[derive(Clone, Copy)]
@@ -11,16 +11,13 @@ pub enum Piece {
     Failed,
 }
 
-pub fn read(buffer: &mut [u8]) -> Piece {
-    let got = libc::read(STDIN_FILENO, buffer);
-    if got < 0 {
-        return Piece::Failed;
+pub fn read(stdin: Stdin, buffer: &mut [u8]) -> Piece {
+    let mut from = stdin;
+    match from.read(buffer) {
+        Ok(0) => Piece::End,
+        Ok(n) => Piece::Bytes(n),
+        Err(_) => Piece::Failed,
     }
-    let n = io::count(got, buffer);
-    if n == 0 {
-        return Piece::End;
-    }
-    Piece::Bytes(n)
 }
 
 // Whether the input stands whole at the front of a buffer, and how long it is.
@@ -32,32 +29,31 @@ enum Input {
 }
 
 // Behind a full buffer a byte is looked for too, so that an input that just fits is told from a longer one.
-fn read_all(buffer: &mut [u8]) -> Input {
-    let mut chunk = io::buffer();
+fn read_all(stdin: Stdin, buffer: &mut [u8]) -> Input {
+    let mut from = stdin;
+    let mut chunk = [0u8; 4096];
     let mut done: usize = 0;
     loop {
-        let got = libc::read(STDIN_FILENO, &mut chunk);
-        if got < 0 {
+        let Ok(n) = from.read(&mut chunk) else {
             return Input::Failed;
-        }
-        let n = io::count(got, &chunk);
+        };
         if n == 0 {
             return Input::Whole(done);
         }
         if buffer.len() - done < n {
             return Input::TooLong;
         }
-        bytes::copy(&chunk[..n], &mut buffer[done..]);
+        buffer[done..done + n].copy_from_slice(&chunk[..n]);
         done += n;
     }
 }
 
 // How long the whole input is; where it can't be had whole, that is told under the program's name.
-pub fn read_whole(name: &[u8], buffer: &mut [u8]) -> Number {
-    match read_all(buffer) {
+pub fn read_whole(stdin: Stdin, stderr: Stderr, name: &[u8], buffer: &mut [u8]) -> Number {
+    match read_all(stdin, buffer) {
         Input::Whole(n) => return Number::Value(n),
-        Input::TooLong => tell::too_long(name, buffer.len()),
-        Input::Failed => tell::unreadable(name),
+        Input::TooLong => tell::too_long(stderr, name, buffer.len()),
+        Input::Failed => tell::unreadable(stderr, name),
     }
     Number::Missing
 }

@@ -1,12 +1,17 @@
 // What is written for a person: plain words and numbers. They gather in a page that is lent, and go out together when it is full or flushed.
 use crate::{tell, words};
 use frame::{Direction, Header};
-use libc::STDOUT_FILENO;
 use refusal::Refusal;
+use std::io::{Print, Stderr, Stdout};
 
 pub const PAGE_LEN: usize = 4096;
 
-pub type Page = [u8; PAGE_LEN];
+// The bytes that gather, and where they go out.
+#[derive(Clone, Copy)]
+pub struct Page {
+    bytes: [u8; PAGE_LEN],
+    stdout: Stdout,
+}
 
 // How many bytes at the front of the page are still to be written, and whether all before them could be. It goes along with its page.
 #[derive(Clone, Copy)]
@@ -15,8 +20,11 @@ pub struct Out {
     pub sound: bool,
 }
 
-pub fn new_page() -> Page {
-    [0; PAGE_LEN]
+pub fn new_page(stdout: Stdout) -> Page {
+    Page {
+        bytes: [0; PAGE_LEN],
+        stdout,
+    }
 }
 
 pub fn start() -> Out {
@@ -28,32 +36,32 @@ pub fn start() -> Out {
 
 // After a write that failed nothing more is written.
 pub fn flush(page: &Page, out: Out) -> Out {
-    let due = words::front(page, out.filled);
+    let due = words::front(&page.bytes, out.filled);
     Out {
         filled: 0,
-        sound: out.sound && io::write_all(STDOUT_FILENO, due),
+        sound: out.sound && page.stdout.write_all(due).is_ok(),
     }
 }
 
 // The last that a program says. A failure is told once, under its name.
-pub fn close(page: &Page, out: Out, name: &[u8]) {
+pub fn close(page: &Page, out: Out, stderr: Stderr, name: &[u8]) {
     let last = flush(page, out);
     if !last.sound {
-        tell::unwritable(name);
+        tell::unwritable(stderr, name);
     }
 }
 
 fn put(page: &mut Page, out: Out, byte: u8) -> Out {
     let at = out.filled;
     if at < PAGE_LEN {
-        page[at] = byte;
+        page.bytes[at] = byte;
         return Out {
             filled: at + 1,
             sound: out.sound,
         };
     }
     let fresh = flush(page, out);
-    page[0] = byte;
+    page.bytes[0] = byte;
     Out {
         filled: 1,
         sound: fresh.sound,
@@ -82,7 +90,7 @@ pub fn integer(page: &mut Page, out: Out, before: &[u8], x: i64) -> Out {
     if x < 0 {
         let below = (!x) as usize;
         let said = text(page, out, before);
-        return number(page, said, b"-", std::num::wrapping_add_usize(below, 1));
+        return number(page, said, b"-", below.wrapping_add(1));
     }
     number(page, out, before, x as usize)
 }

@@ -1,21 +1,30 @@
 // What went wrong, told on standard error behind the program's name. Where that fails as well, nobody is left to tell.
-use libc::STDERR_FILENO;
+use std::io::{Print, Stderr};
 
-fn tell(name: &[u8], what: &[u8]) {
-    io::write_all(STDERR_FILENO, name);
-    io::write_all(STDERR_FILENO, what);
+fn say(stderr: Stderr, words: &[u8]) {
+    let _unheard = stderr.write_all(words);
 }
 
-pub fn unreadable(name: &[u8]) {
-    tell(name, b": standard input can't be read\n");
+fn tell(stderr: Stderr, name: &[u8], what: &[u8]) {
+    say(stderr, name);
+    say(stderr, what);
 }
 
-pub fn unwritable(name: &[u8]) {
-    tell(name, b": standard output can't be written\n");
+pub fn unreadable(stderr: Stderr, name: &[u8]) {
+    tell(stderr, name, b": standard input can't be read\n");
 }
 
-pub fn too_long(name: &[u8], most: usize) {
-    tell(name, b": standard input is longer than ");
-    io::print_decimal(STDERR_FILENO, most as u64);
-    io::write_all(STDERR_FILENO, b" bytes, and none of it is answered\n");
+pub fn unwritable(stderr: Stderr, name: &[u8]) {
+    tell(stderr, name, b": standard output can't be written\n");
+}
+
+pub fn too_long(stderr: Stderr, name: &[u8], most: usize) {
+    let mut digits = [0u8; 20];
+    let k = io::decimal(most as u64, &mut digits);
+    tell(stderr, name, b": standard input is longer than ");
+    tell(
+        stderr,
+        &digits[..k],
+        b" bytes, and none of it is answered\n",
+    );
 }

@@ -9,6 +9,7 @@ use cases::{input, say, tell, words};
 use frame::Envelope;
 use frame_decoder::{Answer, FrameDecoder};
 use segment::Form;
+use std::io::{Stderr, Stdin};
 
 // How long both buffers are (12.1).
 const BUFFER_LEN: usize = 65_536;
@@ -112,6 +113,8 @@ fn say_end(page: &mut Page, out: Out, reader: FrameDecoder) -> Stream {
 
 // What is held when a read fails is no end: the stream may go on.
 fn read_piece(
+    stdin: Stdin,
+    stderr: Stderr,
     page: &mut Page,
     out: Out,
     reader: FrameDecoder,
@@ -119,7 +122,7 @@ fn read_piece(
     reassembly: &mut [u8],
 ) -> Stream {
     let mut buffer = [0u8; 4096];
-    match input::read(&mut buffer) {
+    match input::read(stdin, &mut buffer) {
         Piece::Bytes(n) => use_up(
             page,
             out,
@@ -130,7 +133,7 @@ fn read_piece(
         ),
         Piece::End => say_end(page, out, reader),
         Piece::Failed => {
-            tell::unreadable(b"listing");
+            tell::unreadable(stderr, b"listing");
             Stream::Over(out)
         }
     }
@@ -139,6 +142,8 @@ fn read_piece(
 // No line is kept back while a piece is waited for, and none is read for lines that can't be written. A proved loop has to end, and nothing says that an
 // input does: the turns are counted down from a number that no run uses up.
 fn read_all(
+    stdin: Stdin,
+    stderr: Stderr,
     page: &mut Page,
     out: Out,
     reader: FrameDecoder,
@@ -154,7 +159,7 @@ fn read_all(
         if !said.sound {
             return said;
         }
-        match read_piece(page, said, current, segment, reassembly) {
+        match read_piece(stdin, stderr, page, said, current, segment, reassembly) {
             Stream::On(next, more) => {
                 current = next;
                 said = more;
@@ -167,12 +172,20 @@ fn read_all(
     said
 }
 
-fn main() {
-    let mut page = say::new_page();
+fn main(rt: HostRuntime) {
+    let mut page = say::new_page(rt.stdout());
     let mut segment = [0u8; BUFFER_LEN];
     let mut reassembly = [0u8; BUFFER_LEN];
     let begun = say::text(&mut page, say::start(), b"form short\n");
     let reader = FrameDecoder::new(Form::Short, BUFFER_LEN, BUFFER_LEN);
-    let said = read_all(&mut page, begun, reader, &mut segment, &mut reassembly);
-    say::close(&page, said, b"listing");
+    let said = read_all(
+        rt.stdin(),
+        rt.stderr(),
+        &mut page,
+        begun,
+        reader,
+        &mut segment,
+        &mut reassembly,
+    );
+    say::close(&page, said, rt.stderr(), b"listing");
 }

@@ -194,14 +194,14 @@ fn answer_all(
 }
 
 // The longest input, and the most bytes or cuts that a word may stand for.
-fn main() {
+fn main(rt: HostRuntime) {
     let mut lines = [0u8; 393_216];
     let mut items = [0usize; 131_200];
     let mut bytes = [0u8; 131_200];
-    let Number::Value(n) = input::read_whole(b"pieces", &mut lines) else {
+    let Number::Value(n) = input::read_whole(rt.stdin(), rt.stderr(), b"pieces", &mut lines) else {
         return;
     };
-    let mut page = say::new_page();
+    let mut page = say::new_page(rt.stdout());
     let said = answer_all(
         &mut page,
         say::start(),
@@ -209,5 +209,5 @@ fn main() {
         &mut items,
         &mut bytes,
     );
-    say::close(&page, said, b"pieces");
+    say::close(&page, said, rt.stderr(), b"pieces");
 }
