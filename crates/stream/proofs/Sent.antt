@@ -72,6 +72,8 @@ record Told (s : List ℕ) (gs : List Given) : Type 0 where
 all_told : (gs : List Given) (bs : List (List ℕ)) → WrittenAll gs bs → Told (joined bs) gs
 unfolding joined
 all_told [] [] none_written = record { es = []; envelopes = no_envelope; back = tt }
+all_told [] (b ∷ bs) w = elim w [ ]
+all_told (g ∷ gs) [] w = elim w [ ]
 all_told (g ∷ gs) (b ∷ bs) (one_written w ws) =
     let r : Read g b = read_written g b w in
     let i : Told (joined bs) gs = all_told gs bs ws in

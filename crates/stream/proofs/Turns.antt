@@ -18,7 +18,7 @@ use Rattle.frame_decoder.specs.Reader.{Phase, in_header, in_rest, in_segment, in
 use Rattle.frame_decoder.specs.Call.{Outcome, outcome, call}
 use Rattle.frame_decoder.specs.Private.Inside.{wanted, Roomy}
 use Rattle.frame_decoder.proofs.Steps.{roomy}
-use Rattle.stream.specs.Meaning.{Said, envelope_of, leftover_of, held, Meaning}
+use Rattle.stream.specs.Meaning.{Said, envelope_of, leftover_of, Meaning}
 use Rattle.stream.specs.Caller.{State, state, step_of, reads, holds, start, heard_of}
 use Rattle.stream.specs.Collect.{bytes_of, mark_of, Tape, blank, noted, collected, Ending, refused_end, held_end, end_of, HeardAs}
 use Rattle.stream.specs.Private.Inside.{Way, Going, noted_all, Onward, ending_of, Over, ahead}
@@ -53,11 +53,6 @@ onward_then {stream} {w} {v} {u} p q =
 -- the segment buffer, the reassembly buffer, the output of envelopes and that of marks are as long as they were
 abbrev pub SameLengths : List ℕ → List ℕ → List ℕ → List ℕ → List ℕ → List ℕ → List ℕ → List ℕ → Type 0
 SameLengths s r e m s' r' e' m' = (length s' ≡ length s) × (length r' ≡ length r) × (length e' ≡ length e) × (length m' ≡ length m)
-
--- a call keeps them behind what was kept before; its list of what it keeps has the stream between the buffers and the outputs
-pub lengths_then : {a b c d a' b' c' d' a'' b'' c'' d'' : ℕ} {X Y : Type 0} → (a'' ≡ a') × ((b'' ≡ b') × (X × ((c'' ≡ c') × ((d'' ≡ d') × Y)))) → (a' ≡ a) × (b' ≡ b) × (c' ≡ c) × (d' ≡ d)
-    → (a'' ≡ a) × (b'' ≡ b) × (c'' ≡ c) × (d'' ≡ d)
-lengths_then k l = (k.0 ∙ l.0, k.1.0 ∙ l.1, k.1.1.1.0 ∙ l.2, k.1.1.1.1.0 ∙ l.3)
 
 -- what each loop keeps: from where it set out to where it is
 pub record Underway (stream : List ℕ) (w v : Way) : Type 0 where

@@ -1,10 +1,8 @@
 -- `stream::give` meets its contract: piece after piece the same is still to be heard. Assumes nothing.
 use Prim.Native.Nat.{◌-◌}
-use native.Mathlib.Omega.{arith}
 use lib.ListN.{length}
 use Rattle.stream.specs.Private.Turn.{way_of}
-use Rattle.stream.proofs.Turns.{SameLengths, lengths_then, Underway, underway_first, onward_then, onward_over, used_up_lem, used_stopped}
-use borrow.Author.Rules.{rules}
+use Rattle.stream.proofs.Turns.{Underway}
 use Rattle.stream.proofs.give.Given as goal
 
 abbrev pub invariant-loop-i : goal.invariant-loop-i

@@ -4,11 +4,11 @@ use Rattle.stream.specs.Paper.{tape_of, paper_end}
 use Rattle.stream.specs.declared.Notes.{Notes}
 use Rattle.stream.specs.declared.End.{End}
 use Rattle.stream.proofs.Turns.{used_up_lem, used_stopped, over_used}
-use borrow.Author.Rules.{rules}
 use Rattle.stream.proofs.give_rest.Goals as goal
 
 pub returns-in-Up : goal.returns-in-Up
-returns-in-Up c = over_used (used_up_lem _ c.in-Up.is c.use_up.ensures)
+returns-in-Up c =
+    over_used (used_up_lem _ c.in-Up.is c.use_up.ensures)
     (ap (λ (n : Notes). tape_of n c.use_up.new.envelopes c.use_up.new.marks) c.at_end.ensures.0)
     (ap (λ (e : End). paper_end e c.use_up.new.segment c.use_up.new.reassembly) c.at_end.ensures.1)
 
