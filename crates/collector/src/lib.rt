@@ -3,8 +3,8 @@
 #![tactic(auto)]
 
 ghost use Rattle.std.specs.Prelude.{◌≡◌};
-ghost use Rattle.crc.specs.Check24.{crc24 as checkOf24};
-ghost use Rattle.crc.specs.Check32.{crc32 as checkOf32};
+ghost use Rattle.crc.specs.Check24.{crc24 as check_of_24};
+ghost use Rattle.crc.specs.Check32.{crc32 as check_of_32};
 ghost use Rattle.frame.specs.Envelope.{size_of, size_number};
 
 use crc::{crc24, crc32};
@@ -12,14 +12,14 @@ use frame::read::check_envelope_size;
 
 #[unsafe(no_mangle)]
 pub extern "C" fn tanglegoose_crc24(bytes: &[u8]) -> u32
-    ensures { result ≡ checkOf24 bytes.now }
+    ensures { result ≡ check_of_24 bytes.now }
 {
     crc24(bytes)
 }
 
 #[unsafe(no_mangle)]
 pub extern "C" fn tanglegoose_crc32(bytes: &[u8]) -> u32
-    ensures { result ≡ checkOf32 bytes.now }
+    ensures { result ≡ check_of_32 bytes.now }
 {
     crc32(bytes)
 }

@@ -3,7 +3,7 @@ ghost use Rattle.std.specs.Prelude.{◌≡◌, ◌+◌, ◌≤◌, length, take}
 ghost use Rattle.basis.specs.Front.{whole};
 ghost use Rattle.refusal.specs.Refusal.{paper_refusal};
 ghost use Rattle.types.specs.Number.{part};
-ghost use Rattle.segment.specs.Header.{header_length, header as fieldsAre};
+ghost use Rattle.segment.specs.Header.{header_length, header as fields_are};
 ghost use Rattle.segment.specs.Segment.{max_payload, segment_length, header_at, payload_at};
 ghost use Rattle.segment.specs.Paper.{paper_form, paper_header};
 ghost use Rattle.frame_decoder.specs.Settle.{settled, refusing, header_due, leftover_due, read_segment, moved_down, read_pending, read_joined, segment_due, settle};
@@ -172,7 +172,7 @@ fn segment_due(
     self_contained: bool,
 ) -> Due
     requires { (len ≤ max_payload) × (segment_length (paper_form m.form) len ≤ length segment.now) × (filled ≤ segment_length (paper_form m.form) len) × (m.pending ≤ length reassembly.old) }
-    ensures { settled (paper_due result) reassembly.new ≡ segment_due (paper_reader m) segment.now reassembly.old len (payload_at (paper_form m.form) (take filled segment.now) (fieldsAre len 0 self_contained)) }
+    ensures { settled (paper_due result) reassembly.new ≡ segment_due (paper_reader m) segment.now reassembly.old len (payload_at (paper_form m.form) (take filled segment.now) (fields_are len 0 self_contained)) }
 {
     let form = m.form;
     let header = Header {
