@@ -1,4 +1,4 @@
-//! Links the static libraries that `rt staticlib collector` and `rt staticlib judged` write, and says so where they are missing.
+//! Links the static libraries that `tools/make collector judged` puts into target/, and says so where they are missing.
 use std::env::var;
 use std::path::Path;
 use std::process::exit;
@@ -31,15 +31,10 @@ fn check_archives(folder: &Path) {
         .iter()
         .map(|name| format!("target/staticlib/lib{name}.a"))
         .collect();
-    let commands: Vec<String> = missing
-        .iter()
-        .map(|name| format!("rt staticlib {name}"))
-        .collect();
     fail(&format!(
-        "Missing: {}. Make it with the Rattle toolchain, from the repository's root; it takes some minutes:\n\n    {}\n\n\
-         `rt ci`, and so `.ci/run`, empties target/: after them it has to be made again.",
+        "Missing: {}. Make it with the Rattle toolchain, from the repository's root; it takes some minutes:\n\n    tools/make {}",
         files.join(" and "),
-        commands.join(" && ")
+        missing.join(" ")
     ));
 }
 

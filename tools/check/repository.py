@@ -21,7 +21,7 @@ def read(path):
 
 def crates():
     lines = [line.split("#")[0] for line in read("crates.txt").splitlines()]
-    return [line.split(":")[0].strip() for line in lines if ":" in line]
+    return [line.split(":")[0].split()[0] for line in lines if ":" in line]
 
 
 # Crates that others use; the rest are programs.

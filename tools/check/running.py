@@ -1,4 +1,4 @@
-"""How the checks of this folder run a program that `rt check` built."""
+"""How the checks of this folder run a program that `tools/make` built."""
 import pathlib
 import platform
 
