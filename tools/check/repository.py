@@ -29,7 +29,7 @@ def libraries():
     return [crate for crate in crates() if (CRATES / crate / "src/lib.rt").exists()]
 
 
-CLAUSE = re.compile(r"\s*(ensures|requires) \{")
+CLAUSE = re.compile(r"\s*(ensures|requires)\*?(?: \w+)? \{")
 
 
 # The text of a function up to its body, which begins with a brace that ends a line and belongs to no clause.
@@ -55,7 +55,7 @@ def functions_of_file(crate, file):
         if found := PUBLIC.match(line):
             head = head_of(lines, at)
             clauses = [clause[1] for clause in map(CLAUSE.match, head) if clause]
-            signature = " ".join(head).split(" ensures {")[0].split(" requires {")[0]
+            signature = CLAUSE.split(" ".join(head))[0]
             yield Function(crate, modules, kind, found[2], file, at + 1, signature, clauses.count("ensures"), clauses.count("requires"))
 
 
