@@ -46,7 +46,7 @@ impl Register for Register24 {
     }
 
     // Shifted left by 16.
-    #[tactic(auto, using(crate::proofs::Check24::xor_in_below), unfolding(crate::specs::Check24::byte24))]
+    #[tactic(auto, using(crate::proofs::Check24::xor24_below), unfolding(crate::specs::Check24::byte24))]
     fn xor_in(self, b: u8) -> Self {
         Register24 {
             value: self.value ^ ((b as u32) * 0x1_0000),
