@@ -18,7 +18,7 @@ pub trait Register: Copy {
         ensures { times 8 shifted (number result) ≡ after_byte (number self) b };
 
     // One byte: xor it in; then eight bits.
-    #[tactic(auto, using(crate::proofs::Fold::times_turn, crate::proofs::Fold::times_end))]
+    #[tactic(auto, using(crate::proofs::Fold::times_turn), unfolding(crate::specs::Fold::times))]
     final fn byte(self, b: u8) -> Self
         ensures { number result ≡ after_byte (number self) b }
     {
@@ -30,7 +30,7 @@ pub trait Register: Copy {
     }
 
     // The register after some bytes.
-    #[tactic(auto, using(crate::proofs::Fold::run_turn, crate::proofs::Fold::run_end))]
+    #[tactic(auto, unfolding(crate::specs::Fold::run))]
     final fn update(self, bytes: &[u8]) -> Self
         ensures { number result ≡ run after_byte (number self) bytes.now }
     {

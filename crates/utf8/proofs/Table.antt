@@ -1,15 +1,12 @@
--- Laws of the table of RFC 3629, section 4: which row a byte begins, and what the test of a text makes of the bytes one after the other.
+-- Laws of the table of RFC 3629, section 4: which row a byte begins.
 -- Assumes nothing.
-use Prim.Native.Nat.{ℕ, suc, ◌+◌, ◌≤◌, ◌<◌}
+use Prim.Native.Nat.{ℕ, suc, ◌≤◌, ◌<◌}
 use mathlib.Core.Path.{◌≡◌, ap, ◌∙◌}
 use mathlib.Core.Bool.{Bool, true, false, cond}
 use mathlib.Core.List.{List, [], ◌∷◌}
 use native.Mathlib.Omega.{arith}
-use native.Mathlib.Numerals.{add-one}
 use borrow.Author.Tests.{le-leb, lt-leb}
-use lib.ListN.{length, drop, get_or, drop_of_length-le}
-use lib.Seq.{drop-cons}
-use Rattle.utf8.specs.Utf8.{Range, within, Row, rows, Want, wants, begin, step, after, whole, utf8}
+use Rattle.utf8.specs.Utf8.{Range, within, Row, rows, wants, begin}
 
 -- ---- a range
 
@@ -58,15 +55,3 @@ begins least h (there {r = r} {q = q} {rs = rs} i) b l =
     let k : q.first.high < r.first.low = rising_low (suc q.first.high) h.2 i in
     ap (λ (t : Bool). cond t (wants q.others) (begin rs b)) (above_within q.first b (omega (arith, h.1)) (omega arith))
     ∙ begins (suc q.first.high) h.2 i b l
-
--- ---- one byte further
-
--- what is left of the bytes, one byte further
-pub after_next : (w : Want) (s : List ℕ) (i : ℕ) → i < length s → after w (drop i s) ≡ after (step w (get_or s i 0)) (drop (i + 1) s)
-unfolding after
-after_next w s i h = rw (add-one, drop-cons s i 0)
-
--- past the last byte
-pub utf8_end : (s : List ℕ) (w : Want) (i : ℕ) → length s ≤ i → after (wants []) s ≡ after w (drop i s) → utf8 s ≡ whole w
-unfolding utf8 after
-utf8_end s w i h e = ap whole (e ∙ ap (after w) (drop_of_length-le s h))

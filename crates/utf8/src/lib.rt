@@ -53,7 +53,7 @@ fn next(w: Waiting, b: u8) -> Waiting
 }
 
 // The bytes are UTF-8.
-#[tactic(auto, using(crate::proofs::Table::after_next, crate::proofs::Table::utf8_end))]
+#[tactic(auto, unfolding(crate::specs::Utf8::utf8))]
 pub fn is_utf8(bytes: &[u8]) -> bool
     ensures { result ≡ utf8 bytes.now }
 {
