@@ -1,56 +1,65 @@
 // CRC24, the check of a segment's header.
 ghost use Rattle.std.specs.Prelude.{◌≡◌, ◌<◌, ◌^◌};
-ghost use Rattle.crc.specs.Fold.{run};
 ghost use Rattle.crc.specs.Check24.{start24, shift24, byte24, crc24, register24, more24};
 ghost use Rattle.crc.specs.Running.{running24};
+
+use crate::register::Register;
 
 const POLYNOMIAL: u32 = 0x1974f0b;
 
 const START: u32 = 0x875060;
 
-// One bit: shift left by one and, if bit 24 is set, xor the polynomial.
-fn shift(v: u32) -> u32
-    requires { v < 2 ^ 24 }
-    ensures { (result ≡ shift24 v) × (result < 2 ^ 24) }
-{
-    let x = v * 2;
-    if (x >> 24) % 2 == 1 {
-        return x ^ POLYNOMIAL;
-    }
-    x
+#[derive(Clone, Copy)]
+struct Register24 {
+    value: u32,
+    ghost in_24_bits: { value < 2 ^ 24 },
 }
 
-// One byte: xor it in, shifted left by 16; then eight bits.
-fn byte(v: u32, b: u8) -> u32
-    requires { v < 2 ^ 24 }
-    ensures { (result ≡ byte24 v b) × (result < 2 ^ 24) }
-{
-    let mut x = v ^ ((b as u32) * 0x1_0000);
-    for _ in 0u32..8 {
-        x = shift(x);
+impl Register24 {
+    // Of any number its low 24 bits count.
+    fn of(value: u32) -> Self
+        ensures { result.value ≡ register24 value }
+    {
+        Register24 {
+            value: value % 0x100_0000,
+        }
     }
-    x
 }
 
-// The register after some bytes.
-fn update(v: u32, bytes: &[u8]) -> u32
-    requires { v < 2 ^ 24 }
-    ensures { (result ≡ run byte24 v bytes.now) × (result < 2 ^ 24) }
-{
-    let mut x = v;
-    let mut i = 0;
-    while i < bytes.len() {
-        x = byte(x, bytes[i]);
-        i += 1;
+impl Register for Register24 {
+    ghost number = { λ r. r.value };
+
+    ghost shifted = { shift24 };
+
+    ghost after_byte = { byte24 };
+
+    // Shift left by one and, if bit 24 is set, xor the polynomial, which clears it.
+    #[tactic(auto, using(crate::proofs::Check24::shift24_set, crate::proofs::Check24::shift24_clear, crate::proofs::Check24::set_below))]
+    fn shift(self) -> Self {
+        let x = self.value * 2;
+        if (x >> 24) % 2 == 1 {
+            return Register24 {
+                value: x ^ POLYNOMIAL,
+            };
+        }
+        Register24 { value: x }
     }
-    x
+
+    // Shifted left by 16.
+    #[tactic(auto, using(crate::proofs::Check24::xor24_below), unfolding(crate::specs::Check24::byte24))]
+    fn xor_in(self, b: u8) -> Self {
+        Register24 {
+            value: self.value ^ ((b as u32) * 0x1_0000),
+        }
+    }
 }
 
 // The check of all the bytes at once.
+#[tactic(auto, unfolding(crate::specs::Check24::crc24))]
 pub fn crc24(bytes: &[u8]) -> u32
     ensures { result ≡ crc24 bytes.now }
 {
-    update(START, bytes)
+    Register24 { value: START }.update(bytes).value
 }
 
 // The check of bytes that come in parts: start, more for each part, finish.
@@ -66,18 +75,19 @@ impl Running24 {
         Running24 { value: START }
     }
 
+    #[tactic(auto, unfolding(crate::specs::Check24::more24))]
     pub fn more(self, bytes: &[u8]) -> Self
         ensures { result ≡ running24 (more24 self.value bytes.now) }
     {
-        let v = self.value % 0x100_0000;
+        let register = Register24::of(self.value).update(bytes);
         Running24 {
-            value: update(v, bytes),
+            value: register.value,
         }
     }
 
     pub fn finish(self) -> u32
         ensures { result ≡ register24 self.value }
     {
-        self.value % 0x100_0000
+        Register24::of(self.value).value
     }
 }

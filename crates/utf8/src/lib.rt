@@ -20,87 +20,46 @@ fn tail(low: u8, high: u8, more: u8) -> Waiting
     Waiting::Tail { low, high, more }
 }
 
-// The rows of the table, one after the other.
+// The rows of the table, one after the other. The first is a guard since most bytes lie in it: a match tries single values before any range.
+#[tactic(auto, using(std::proofs::lemmas::Bool::Decides::nat_tests), unfolding(crate::specs::Utf8::begin, crate::specs::Private::Waiting::tails))]
 fn first(b: u8) -> Waiting
     ensures { want_of result ≡ begin rows b }
 {
-    if b <= 0x7f {
-        return Waiting::First;
+    match b {
+        _ if b.is_ascii() => Waiting::First,
+        0xc2..=0xdf => tail(0x80, 0xbf, 0),
+        0xe0 => tail(0xa0, 0xbf, 1),
+        0xe1..=0xec => tail(0x80, 0xbf, 1),
+        0xed => tail(0x80, 0x9f, 1),
+        0xee..=0xef => tail(0x80, 0xbf, 1),
+        0xf0 => tail(0x90, 0xbf, 2),
+        0xf1..=0xf3 => tail(0x80, 0xbf, 2),
+        0xf4 => tail(0x80, 0x8f, 2),
+        _ => Waiting::Never,
     }
-    if b < 0xc2 {
-        return Waiting::Never;
-    }
-    if b <= 0xdf {
-        return tail(0x80, 0xbf, 0);
-    }
-    if b == 0xe0 {
-        return tail(0xa0, 0xbf, 1);
-    }
-    if b <= 0xec {
-        return tail(0x80, 0xbf, 1);
-    }
-    if b == 0xed {
-        return tail(0x80, 0x9f, 1);
-    }
-    if b <= 0xef {
-        return tail(0x80, 0xbf, 1);
-    }
-    if b == 0xf0 {
-        return tail(0x90, 0xbf, 2);
-    }
-    if b <= 0xf3 {
-        return tail(0x80, 0xbf, 2);
-    }
-    if b == 0xf4 {
-        return tail(0x80, 0x8f, 2);
-    }
-    Waiting::Never
 }
 
+#[tactic(auto, using(std::proofs::lemmas::Bool::Decides::nat_tests), unfolding(crate::specs::Utf8::step, crate::specs::Private::Waiting::tails))]
 fn next(w: Waiting, b: u8) -> Waiting
     ensures { want_of result ≡ step (want_of w) b }
 {
     match w {
         Waiting::First => first(b),
-        Waiting::Tail { low, high, more } => {
-            if b < low {
-                return Waiting::Never;
-            }
-            if high < b {
-                return Waiting::Never;
-            }
-            if more == 0 {
-                return Waiting::First;
-            }
-            tail(0x80, 0xbf, more - 1)
-        }
+        Waiting::Tail { low, high, .. } if b < low || high < b => Waiting::Never,
+        Waiting::Tail { more: 0, .. } => Waiting::First,
+        Waiting::Tail { more, .. } => tail(0x80, 0xbf, more - 1),
         Waiting::Never => Waiting::Never,
     }
 }
 
-fn is_first(w: Waiting) -> bool
-    ensures { result ≡ whole (want_of w) }
-{
-    match w {
-        Waiting::First => true,
-        Waiting::Tail {
-            low: _,
-            high: _,
-            more: _,
-        } => false,
-        Waiting::Never => false,
-    }
-}
-
 // The bytes are UTF-8.
+#[tactic(auto, unfolding(crate::specs::Utf8::utf8))]
 pub fn is_utf8(bytes: &[u8]) -> bool
     ensures { result ≡ utf8 bytes.now }
 {
     let mut w = Waiting::First;
-    let mut i: usize = 0;
-    while i < bytes.len() {
-        w = next(w, bytes[i]);
-        i += 1;
+    for &b in bytes {
+        w = next(w, b);
     }
-    is_first(w)
+    matches!(w, Waiting::First)
 }
