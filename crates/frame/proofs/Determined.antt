@@ -4,8 +4,8 @@ use Rattle.basis.specs.Determined.{Determined, DeterminedAs}
 use Rattle.basis.proofs.Determined.{by_equation, by_sight, by_meaning}
 use Rattle.types.proofs.Determined.{DeterminedWriter, by_wrote}
 use Rattle.frame.specs.Envelope.{size_of, size_number, envelope, id_in, body_in}
-use Rattle.frame.specs.Paper.{paper_header, paper_envelope}
-use Rattle.frame.specs.Write.{content, envelope_bytes, envelope_check}
+use Rattle.frame.specs.Paper.{paper_header, paper_content, paper_envelope}
+use Rattle.frame.specs.Write.{envelope_bytes, envelope_check}
 use Rattle.frame.proofs.Told.{size_told, reading_told}
 use Rattle.frame.proofs.read.envelope_size.Reads as sizes
 use Rattle.frame.proofs.read.check_envelope_size.Reads as checks
@@ -32,6 +32,6 @@ tracing_id_determined = by_sight _ (λ κs a. id_in a.0.now (paper_envelope a.1.
 pub write_envelope_determined : DeterminedWriter writes.Post
 write_envelope_determined =
     by_wrote
-    (λ κs v. envelope_check (paper_header v.0) (content v.1.0.now v.1.1.0.now v.1.1.1.0.now v.1.1.1.1.0.now))
+    (λ κs v. envelope_check (paper_header v.0) (paper_content v.1.0))
     (λ κs v. 0)
-    (λ κs v. envelope_bytes (paper_header v.0) (content v.1.0.now v.1.1.0.now v.1.1.1.0.now v.1.1.1.1.0.now))
+    (λ κs v. envelope_bytes (paper_header v.0) (paper_content v.1.0))

@@ -1,14 +1,15 @@
 -- What an answer means says the answer: from the paper's numbers and values the case itself follows. Assumes nothing.
-use mathlib.Core.Path.{refl, ap}
+use mathlib.Core.Path.{◌≡◌, refl, ap}
+use Rattle.std.specs.Prelude as std
+use Rattle.refusal.specs.Refusal as paper
+use Rattle.refusal.specs.declared.Refusal.{Refusal}
 use mathlib.Core.Bool.{true, false}
 use Rattle.basis.proofs.Determined.{Tells}
 use Rattle.refusal.proofs.Numbers.{case_of, case_of_paper}
 use Rattle.types.proofs.Told.{code_place, walk_of}
-use Rattle.basis.specs.Front.{incomplete, refuses, whole}
-use Rattle.frame.specs.Paper.{is_response, paper_header, paper_envelope, paper_size, paper_reading}
+use Rattle.basis.specs.Front.{Front, incomplete, refuses, whole}
+use Rattle.frame.specs.Paper.{is_response, paper_header, paper_envelope, paper_front, paper_size, paper_reading}
 use Rattle.frame.specs.declared.Direction.{Direction}
-use Rattle.frame.specs.declared.Size.{Size}
-use Rattle.frame.specs.declared.Reading.{Reading}
 
 -- ---- headers
 
@@ -41,14 +42,22 @@ envelope_told = record {
 
 -- ---- what stands at the front
 
+abbrev front_back : {A B : Type 0} → (B → A) → Front paper.Refusal B → std.Result (std.Option A) Refusal
+front_back back incomplete = std.Ok std.None
+front_back back (whole x) = std.Ok (std.Some (back x))
+front_back back (refuses why) = std.Err (case_of why)
+
+front_is : {A B : Type 0} {meaning : A → B} (t : Tells meaning) (r : std.Result (std.Option A) Refusal) → front_back t.back (paper_front meaning r) ≡ r
+front_is t (std.Ok std.None) = refl
+front_is t (std.Ok (std.Some x)) = ap (λ x. std.Ok (std.Some x)) (t.is x)
+front_is t (std.Err e) = ap std.Err (case_of_paper e)
+
+-- where a value's meaning tells it, an answer's does
+pub front_told : {A B : Type 0} {meaning : A → B} → Tells meaning → Tells (paper_front meaning)
+front_told t = record { back = front_back t.back; is = front_is t }
+
 pub size_told : Tells paper_size
-size_told = record {
-  back = elim [ incomplete ↦ Size.Incomplete | refuses why ↦ Size.Refused (case_of why) | whole n ↦ Size.Whole n ];
-  is = elim [ Size.Incomplete ↦ refl | Size.Whole n ↦ refl | Size.Refused e ↦ ap Size.Refused (case_of_paper e) ];
-}
+size_told = front_told (record { back = λ n. n; is = λ n. refl })
 
 pub reading_told : Tells paper_reading
-reading_told = record {
-  back = elim [ incomplete ↦ Reading.Incomplete | refuses why ↦ Reading.Refused (case_of why) | whole e ↦ Reading.Whole (envelope_told.back e) ];
-  is = elim [ Reading.Incomplete ↦ refl | Reading.Whole e ↦ ap Reading.Whole (envelope_told.is e) | Reading.Refused e ↦ ap Reading.Refused (case_of_paper e) ];
-}
+reading_told = front_told envelope_told

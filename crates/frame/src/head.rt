@@ -1,4 +1,6 @@
 // The header's fields: which are known, what they ask for, and where they stand.
+#![tactic(auto, unfolding(crate::specs::Header::known_version, crate::specs::Header::known_opcode, crate::specs::Header::has_id, crate::specs::Header::has_warnings, crate::specs::Header::header_of))]
+
 ghost use Rattle.std.specs.Prelude.{◌≡◌, ◌≤◌, leb, length};
 ghost use Rattle.frame.specs.Header.{header_of, known_version, known_opcode, flag, has_id, has_warnings};
 ghost use Rattle.frame.specs.Paper.{is_response, paper_header};
@@ -29,19 +31,16 @@ pub(crate) fn has_flag(flags: u8, weight: u8) -> bool
 pub(crate) fn has_id(header: Header) -> bool
     ensures { result ≡ has_id (paper_header header) }
 {
-    let flags = header.flags;
-    let direction = header.direction;
-    match direction {
+    match header.direction {
         Direction::Request => false,
-        Direction::Response => has_flag(flags, TRACING),
+        Direction::Response => has_flag(header.flags, TRACING),
     }
 }
 
 pub(crate) fn has_warnings(header: Header) -> bool
     ensures { result ≡ has_warnings (paper_header header) }
 {
-    let flags = header.flags;
-    has_flag(flags, WARNING)
+    has_flag(header.flags, WARNING)
 }
 
 fn direction_of(first: u8) -> Direction
@@ -58,17 +57,12 @@ pub(crate) fn read_header(bytes: &[u8]) -> Header
     requires { 9 ≤ length bytes.now }
     ensures { paper_header result ≡ header_of bytes.now }
 {
-    let first = bytes[0];
-    let flags = bytes[1];
-    let bits = inner::read_number(bytes, 2, 2);
-    let stream = number::signed16(bits as u16);
-    let opcode = bytes[4];
-    let direction = direction_of(first);
+    let stream = inner::read_number(bytes, 2, 2) as u16;
     Header {
-        version: first % 128,
-        direction,
-        flags: flags % (MAX_FLAGS + 1),
-        stream,
-        opcode,
+        version: bytes[0] % 128,
+        direction: direction_of(bytes[0]),
+        flags: bytes[1] % (MAX_FLAGS + 1),
+        stream: number::signed16(stream),
+        opcode: bytes[4],
     }
 }

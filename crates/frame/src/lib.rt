@@ -2,7 +2,6 @@
 // `specs/Paper.antt` says what each case of an answer means.
 #![tactic(auto)]
 
-use refusal::Refusal;
 use types::{Place, Walk};
 
 mod head;
@@ -29,14 +28,14 @@ pub const BETA: u8 = 0x10;
 
 pub const MAX_FLAGS: u8 = 0x1f;
 
-#[derive(Clone, Copy)]
+#[derive(Clone, Copy, Debug, PartialEq, Eq)]
 pub enum Direction {
     Request,
     Response,
 }
 
 // What a header says, but for the body's length. Version and opcode are any numbers, and a writer refuses unknown ones.
-#[derive(Clone, Copy)]
+#[derive(Clone, Copy, Debug, PartialEq, Eq)]
 pub struct Header {
     pub version: u8,
     pub direction: Direction,
@@ -45,28 +44,22 @@ pub struct Header {
     pub opcode: u8,
 }
 
-// How long an envelope is, with its header.
+// What an envelope is to hold: a tracing id, warnings (the texts that the lengths cut the one text into), and the rest of its body.
 #[derive(Clone, Copy)]
-pub enum Size {
-    Incomplete,
-    Whole(usize),
-    Refused(Refusal),
+pub struct Content<'a> {
+    pub id: &'a [u8],
+    pub text: &'a [u8],
+    pub lens: &'a [usize],
+    pub body: &'a [u8],
 }
 
 // An envelope as it was read. Its places are counted from its first byte: they are the same wherever it stands. If it is traced, its tracing id stands
 // behind the header. Its warnings are walked along as any strings are, by `types::read::next_string`.
-#[derive(Clone, Copy)]
+#[derive(Clone, Copy, Debug, PartialEq, Eq)]
 pub struct Envelope {
     pub size: usize,
     pub header: Header,
     pub traced: bool,
     pub warnings: Walk,
     pub body: Place,
-}
-
-#[derive(Clone, Copy)]
-pub enum Reading {
-    Incomplete,
-    Whole(Envelope),
-    Refused(Refusal),
 }

@@ -3,7 +3,6 @@ pub mod Steps
 pub mod Phases
 pub mod Moved
 pub mod Parts
-pub mod Tags
 pub mod Sound
 pub mod Works
 pub mod Told

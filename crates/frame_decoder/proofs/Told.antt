@@ -8,6 +8,9 @@ use Rattle.types.proofs.Told.{code_place}
 use Rattle.segment.proofs.Told.{form_told}
 use Rattle.frame.proofs.Told.{envelope_told}
 use Rattle.frame_decoder.specs.Reader.{in_header, in_rest, in_segment, in_reassembly, stopped, segment_buffer, reassembly_buffer, envelope_at, leftover, more, refused}
+use Rattle.std.specs.Prelude as std
+use Rattle.refusal.specs.declared.Refusal as why
+use Rattle.frame_decoder.specs.Reader as paper
 use Rattle.frame_decoder.specs.Call.{Outcome}
 use Rattle.frame_decoder.specs.Paper.{paper_phase, paper_reader, paper_buffer, paper_answer, paper_heard, paper_step}
 use Rattle.frame_decoder.specs.declared.Phase.{Phase}
@@ -48,21 +51,21 @@ buffer_told = record {
   is = elim [ Buffer.Segment ↦ refl | Buffer.Reassembly ↦ refl ];
 }
 
+answer_back : paper.Answer → std.Result Answer why.Refusal
+answer_back (envelope_at b p e) = std.Ok (Answer.Envelope (buffer_told.back b) (code_place p) (envelope_told.back e))
+answer_back (leftover n) = std.Ok (Answer.Leftover n)
+answer_back more = std.Ok Answer.More
+answer_back (refused why) = std.Err (case_of why)
+
+answer_is : (a : std.Result Answer why.Refusal) → answer_back (paper_answer a) ≡ a
+unfolding answer_back
+answer_is (std.Ok (Answer.Envelope b p e)) = ap₂ (λ x y. std.Ok (Answer.Envelope x p y)) (buffer_told.is b) (envelope_told.is e)
+answer_is (std.Ok (Answer.Leftover n)) = refl
+answer_is (std.Ok Answer.More) = refl
+answer_is (std.Err e) = ap std.Err (case_of_paper e)
+
 answer_told : Tells paper_answer
-answer_told = record {
-  back = elim [
-    | envelope_at b p e ↦ Answer.Envelope (buffer_told.back b) (code_place p) (envelope_told.back e)
-    | leftover n ↦ Answer.Leftover n
-    | more ↦ Answer.More
-    | refused why ↦ Answer.Refused (case_of why)
-  ];
-  is = elim [
-    | Answer.Envelope b p e ↦ ap₂ (λ x y. Answer.Envelope x p y) (buffer_told.is b) (envelope_told.is e)
-    | Answer.Leftover n ↦ refl
-    | Answer.More ↦ refl
-    | Answer.Refused e ↦ ap Answer.Refused (case_of_paper e)
-  ];
-}
+answer_told = record { back = answer_back; is = answer_is }
 
 -- ---- an answer with the reader and what the buffers then hold
 
@@ -74,7 +77,7 @@ lent_from o = ((reader_told.back o.reader, record { answer = answer_told.back o.
 
 lent_is : (h : Heard) (r : FrameDecoder) (seg re : List ℕ) → ◌≡◌ {A = Lent} (lent_from (paper_heard h r seg re)) ((r, h), (seg, re))
 unfolding lent_from
-lent_is h r seg re = ap₂ (λ (x : FrameDecoder) (a : Answer). ((x, record { answer = a; taken = h.taken }), (seg, re))) (reader_told.is r) (answer_told.is h.answer)
+lent_is h r seg re = ap₂ (λ (x : FrameDecoder) (a : std.Result Answer why.Refusal). ((x, record { answer = a; taken = h.taken }), (seg, re))) (reader_told.is r) (answer_told.is h.answer)
 
 pub lent_apart : (g h : Heard) (r s : FrameDecoder) (seg re seg' re' : List ℕ) → paper_heard g r seg re ≡ paper_heard h s seg' re' → ◌≡◌ {A = Lent} ((r, g), (seg, re)) ((s, h), (seg', re'))
 lent_apart g h r s seg re seg' re' e = sym (lent_is g r seg re) ∙ ap lent_from e ∙ lent_is h s seg' re'

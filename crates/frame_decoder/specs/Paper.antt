@@ -1,6 +1,8 @@
 -- What the values and answers of the code mean. Assumes nothing.
 use Rattle.std.specs.Prelude.{List, ℕ}
+use Rattle.std.specs.Prelude as std
 use Rattle.refusal.specs.Refusal.{paper_refusal}
+use Rattle.refusal.specs.declared.Refusal as why
 use Rattle.types.specs.Paper.{place_of}
 use Rattle.segment.specs.Paper.{paper_form}
 use Rattle.frame.specs.Paper.{paper_envelope}
@@ -34,11 +36,11 @@ abbrev pub paper_buffer : code-buffer.Buffer → Buffer
 paper_buffer code-buffer.Buffer.Segment = segment_buffer
 paper_buffer code-buffer.Buffer.Reassembly = reassembly_buffer
 
-abbrev pub paper_answer : code-answer.Answer → Answer
-paper_answer (code-answer.Answer.Envelope buffer place e) = envelope_at (paper_buffer buffer) (place_of place) (paper_envelope e)
-paper_answer (code-answer.Answer.Leftover n) = leftover n
-paper_answer code-answer.Answer.More = more
-paper_answer (code-answer.Answer.Refused e) = refused (paper_refusal e)
+abbrev pub paper_answer : std.Result code-answer.Answer why.Refusal → Answer
+paper_answer (std.Ok (code-answer.Answer.Envelope buffer place e)) = envelope_at (paper_buffer buffer) (place_of place) (paper_envelope e)
+paper_answer (std.Ok (code-answer.Answer.Leftover n)) = leftover n
+paper_answer (std.Ok code-answer.Answer.More) = more
+paper_answer (std.Err e) = refused (paper_refusal e)
 
 -- what was heard, together with the reader and what the buffers then hold
 abbrev pub paper_heard : Heard → code-decoder.FrameDecoder → List ℕ → List ℕ → Outcome

@@ -28,16 +28,16 @@ pub const MIN_REASSEMBLY_LEN: usize = 9;
 pub const MAX_REASSEMBLY_LEN: usize = 1_048_576;
 
 // Whether buffers of these lengths may be lent.
+#[tactic(auto, unfolding(crate::specs::Reader::in_range))]
 pub fn in_range(segment_len: usize, reassembly_len: usize) -> bool
     ensures { result ≡ in_range segment_len reassembly_len }
 {
-    let first = (MIN_SEGMENT_LEN <= segment_len) & (segment_len <= MAX_SEGMENT_LEN);
-    let second = (MIN_REASSEMBLY_LEN <= reassembly_len) & (reassembly_len <= MAX_REASSEMBLY_LEN);
-    first & second
+    (MIN_SEGMENT_LEN..=MAX_SEGMENT_LEN).contains(&segment_len)
+        && (MIN_REASSEMBLY_LEN..=MAX_REASSEMBLY_LEN).contains(&reassembly_len)
 }
 
 // What a reader is about.
-#[derive(Clone, Copy)]
+#[derive(Clone, Copy, Debug, PartialEq, Eq)]
 pub enum Phase {
     // So many bytes of a header are there.
     Header {
@@ -62,7 +62,7 @@ pub enum Phase {
 }
 
 // The form, the lengths of the two buffers that it was made for, how many bytes are pending, and the phase. Plain data: a forged one has its answer too.
-#[derive(Clone, Copy)]
+#[derive(Clone, Copy, Debug, PartialEq, Eq)]
 pub struct FrameDecoder {
     pub form: Form,
     pub segment_len: usize,
@@ -71,30 +71,29 @@ pub struct FrameDecoder {
     pub phase: Phase,
 }
 
-#[derive(Clone, Copy)]
+#[derive(Clone, Copy, Debug, PartialEq, Eq)]
 pub enum Buffer {
     Segment,
     Reassembly,
 }
 
-#[derive(Clone, Copy)]
+#[derive(Clone, Copy, Debug, PartialEq, Eq)]
 pub enum Answer {
     // In which buffer, where and how long, and its reading. The place stands until the next call.
     Envelope(Buffer, Place, Envelope),
     // So many bytes of a self-contained payload were dropped.
     Leftover(usize),
     More,
-    Refused(Refusal),
 }
 
-// An answer, and how many bytes of the piece the call took.
-#[derive(Clone, Copy)]
+// An answer or a refusal, and how many bytes of the piece the call took.
+#[derive(Clone, Copy, Debug, PartialEq, Eq)]
 pub struct Heard {
-    pub answer: Answer,
+    pub answer: Result<Answer, Refusal>,
     pub taken: usize,
 }
 
-#[derive(Clone, Copy)]
+#[derive(Clone, Copy, Debug, PartialEq, Eq)]
 pub struct Step {
     pub reader: FrameDecoder,
     pub heard: Heard,
@@ -115,27 +114,20 @@ impl FrameDecoder {
     pub fn new(form: Form, segment_len: usize, reassembly_len: usize) -> FrameDecoder
         ensures { paper_reader result ≡ fresh (paper_form form) segment_len reassembly_len }
     {
-        let phase = Phase::Header { filled: 0 };
         FrameDecoder {
             form,
             segment_len,
             reassembly_len,
             pending: 0,
-            phase,
+            phase: Phase::Header { filled: 0 },
         }
     }
 
-    pub(crate) fn in_phase(self, phase: Phase) -> FrameDecoder
+    pub(crate) fn in_phase(mut self, phase: Phase) -> FrameDecoder
         ensures { paper_reader result ≡ in_phase (paper_reader self) (paper_phase phase) }
     {
-        let form = self.form;
-        FrameDecoder {
-            form,
-            segment_len: self.segment_len,
-            reassembly_len: self.reassembly_len,
-            pending: self.pending,
-            phase,
-        }
+        self.phase = phase;
+        self
     }
 
     fn with_pending(mut self, pending: usize) -> FrameDecoder
@@ -148,57 +140,48 @@ impl FrameDecoder {
     pub(crate) fn kept(self, pending: usize, phase: Phase) -> FrameDecoder
         ensures { paper_reader result ≡ keeping (paper_reader self) pending (paper_phase phase) }
     {
-        let next = self.in_phase(phase);
-        next.with_pending(pending)
+        self.with_pending(pending).in_phase(phase)
     }
 
     // How many bytes of an unfinished segment are there.
     pub fn filled(self) -> usize
         ensures { result ≡ (counts_of (paper_reader self)).there }
     {
-        let phase = self.phase;
-        match phase {
-            Phase::Header { filled } => filled,
-            Phase::Rest {
-                filled,
-                len: _,
-                self_contained: _,
-            } => filled,
-            Phase::InSegment { len: _, at: _ } => 0,
-            Phase::InReassembly { at: _ } => 0,
-            Phase::Stopped(_) => 0,
+        match self.phase {
+            Phase::Header { filled } | Phase::Rest { filled, .. } => filled,
+            _ => 0,
         }
     }
 
     // How many bytes are held: those of an unfinished segment, and those pending.
+    #[tactic(auto, unfolding(crate::specs::Reader::held))]
     pub fn held(self) -> usize
         ensures { result ≡ held (paper_reader self) }
     {
-        let segment_len = self.segment_len;
-        let reassembly_len = self.reassembly_len;
-        if admit::is_admissible(self, segment_len, reassembly_len) {
-            return admit::held_in(self);
+        if admit::is_admissible(self, self.segment_len, self.reassembly_len) {
+            admit::held_in(self)
+        } else {
+            0
         }
-        0
     }
 
     // Works on to the first answer that is due, and takes no byte beyond.
+    #[tactic(auto, unfolding(crate::specs::Call::call))]
     pub fn read(self, segment: &mut [u8], reassembly: &mut [u8], piece: &[u8]) -> Step
         ensures { paper_step result segment.new reassembly.new ≡ call (paper_reader self) segment.old reassembly.old piece.now }
     {
-        if admit::is_admissible(self, segment.len(), reassembly.len()) {
-            return work::work(self, segment, reassembly, piece);
+        if !admit::is_admissible(self, segment.len(), reassembly.len()) {
+            return work::step(self, Err(Refusal::Inadmissible), 0);
         }
-        let answer = Answer::Refused(Refusal::Inadmissible);
-        work::step(self, answer, 0)
+        work::work(self, segment, reassembly, piece)
     }
 
     // The Rust's outer shape: the reader is lent, and the next one is stored in its place.
     pub fn consume(&mut self, segment: &mut [u8], reassembly: &mut [u8], piece: &[u8]) -> Heard
         ensures { paper_heard result self.new segment.new reassembly.new ≡ call (paper_reader self.old) segment.old reassembly.old piece.now }
     {
-        let t = self.read(segment, reassembly, piece);
-        *self = t.reader;
-        t.heard
+        let step = self.read(segment, reassembly, piece);
+        *self = step.reader;
+        step.heard
     }
 }

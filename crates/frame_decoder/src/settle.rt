@@ -1,4 +1,6 @@
 // What is due without another byte, up to the first answer.
+#![tactic(auto, unfolding(crate::specs::Settle::header_due, crate::specs::Settle::leftover_due, crate::specs::Settle::from_segment, crate::specs::Settle::read_segment, crate::specs::Settle::from_pending, crate::specs::Settle::read_pending, crate::specs::Settle::read_alone, crate::specs::Settle::read_joined, crate::specs::Settle::segment_due, crate::specs::Settle::settle_at, crate::specs::Settle::settle))]
+
 ghost use Rattle.std.specs.Prelude.{◌≡◌, ◌+◌, ◌≤◌, length, take};
 ghost use Rattle.basis.specs.Front.{whole};
 ghost use Rattle.refusal.specs.Refusal.{paper_refusal};
@@ -6,53 +8,65 @@ ghost use Rattle.types.specs.Number.{part};
 ghost use Rattle.segment.specs.Header.{header_length, header as fields_are};
 ghost use Rattle.segment.specs.Segment.{max_payload, segment_length, header_at, payload_at};
 ghost use Rattle.segment.specs.Paper.{paper_form, paper_header};
-ghost use Rattle.frame_decoder.specs.Settle.{settled, refusing, header_due, leftover_due, read_segment, moved_down, read_pending, read_joined, segment_due, settle};
+ghost use Rattle.frame_decoder.specs.Settle.{settled, refusing, header_due, leftover_due, read_segment, moved_down, read_pending, read_alone, read_joined, segment_due, settle};
 ghost use Rattle.frame_decoder.specs.Paper.{paper_reader};
-ghost use Rattle.frame_decoder.specs.Private.Inside.{paper_due, Admitted};
+ghost use Rattle.frame_decoder.specs.Private.Inside.{paper_due, waiting, answering, Admitted};
 
 use crate::{Answer, Buffer, FrameDecoder, Phase};
-use frame::Reading;
 use frame::read::read_envelope;
 use refusal::Refusal;
-use segment::{
-    Header, ReadHeader, ReadPayload, TRAILER_LEN, header_len, read_header, read_payload,
-};
+use segment::{Header, TRAILER_LEN, header_len, read_header, read_payload};
 use types::Place;
 use types::inner::put_bytes;
 
-// An answer and the reader behind it, or a reader that waits for bytes.
+// The answer, if one is due, and the reader behind it; where none is, the reader waits for bytes.
 #[derive(Clone, Copy)]
-pub(crate) enum Due {
-    Answered(Answer, FrameDecoder),
-    Waits(FrameDecoder),
+pub(crate) struct Due {
+    pub answer: Option<Result<Answer, Refusal>>,
+    pub reader: FrameDecoder,
+}
+
+fn waits(reader: FrameDecoder) -> Due
+    ensures { result ≡ waiting reader }
+{
+    Due {
+        answer: None,
+        reader,
+    }
+}
+
+fn answered(answer: Answer, reader: FrameDecoder) -> Due
+    ensures { result ≡ answering answer reader }
+{
+    Due {
+        answer: Some(Ok(answer)),
+        reader,
+    }
 }
 
 // Any refusal stops the reader.
 fn refuse(m: FrameDecoder, e: Refusal) -> Due
     ensures { paper_due result ≡ refusing (paper_refusal e) (paper_reader m) }
 {
-    let reader = m.in_phase(Phase::Stopped(e));
-    Due::Answered(Answer::Refused(e), reader)
+    Due {
+        answer: Some(Err(e)),
+        reader: m.in_phase(Phase::Stopped(e)),
+    }
 }
 
 // A header that is there and passed its checks: 4.
 fn passed(m: FrameDecoder, filled: usize, room: usize, header: Header) -> Due
     ensures { paper_due result ≡ header_due (paper_reader m) filled room (whole (paper_header header)) }
 {
-    let form = m.form;
     let len = header.payload as usize;
-    let size = header_len(form) + len + TRAILER_LEN;
-    if size <= room {
-        let self_contained = header.self_contained;
-        let phase = Phase::Rest {
-            filled,
-            len,
-            self_contained,
-        };
-        let reader = m.in_phase(phase);
-        return Due::Waits(reader);
+    if room < header_len(m.form) + len + TRAILER_LEN {
+        return refuse(m, Refusal::SegmentTooLong);
     }
-    refuse(m, Refusal::SegmentTooLong)
+    waits(m.in_phase(Phase::Rest {
+        filled,
+        len,
+        self_contained: header.self_contained,
+    }))
 }
 
 // So many bytes of a header are there: 2, 3, 4.
@@ -60,11 +74,10 @@ fn header_due(m: FrameDecoder, segment: &[u8], filled: usize) -> Due
     requires { filled ≤ length segment.now }
     ensures { paper_due result ≡ header_due (paper_reader m) filled (length segment.now) (header_at (paper_form m.form) (take filled segment.now)) }
 {
-    let form = m.form;
-    match read_header(form, &segment[..filled]) {
-        ReadHeader::Incomplete => Due::Waits(m),
-        ReadHeader::Whole(header) => passed(m, filled, segment.len(), header),
-        ReadHeader::Refused(e) => refuse(m, e),
+    match read_header(m.form, &segment[..filled]) {
+        Ok(None) => waits(m),
+        Ok(Some(header)) => passed(m, filled, segment.len(), header),
+        Err(e) => refuse(m, e),
     }
 }
 
@@ -74,9 +87,9 @@ fn left_over(m: FrameDecoder, n: usize) -> Due
 {
     let reader = m.in_phase(Phase::Header { filled: 0 });
     if n == 0 {
-        return Due::Waits(reader);
+        return waits(reader);
     }
-    Due::Answered(Answer::Leftover(n), reader)
+    answered(Answer::Leftover(n), reader)
 }
 
 // The next envelope of a self-contained payload, where it stands in the middle of the segment buffer.
@@ -84,37 +97,30 @@ fn from_segment(m: FrameDecoder, segment: &[u8], len: usize, at: usize) -> Due
     requires { (at ≤ len) × (header_length (paper_form m.form) + len ≤ length segment.now) }
     ensures { paper_due result ≡ read_segment (paper_reader m) segment.now len at }
 {
-    let form = m.form;
-    let head = header_len(form);
-    let start = head + at;
-    let end = head + len;
-    let reading = read_envelope(&segment[start..end]);
-    if let Reading::Refused(e) = reading {
-        return refuse(m, e);
-    }
-    let Reading::Whole(envelope) = reading else {
+    let start = header_len(m.form) + at;
+    let end = header_len(m.form) + len;
+    let reading = match read_envelope(&segment[start..end]) {
+        Ok(reading) => reading,
+        Err(e) => return refuse(m, e),
+    };
+    let Some(envelope) = reading else {
         return left_over(m, len - at);
     };
     let size = envelope.size;
-    let next = at + size;
-    let reader = m.in_phase(Phase::InSegment { len, at: next });
     let place = Place { start, len: size };
-    Due::Answered(Answer::Envelope(Buffer::Segment, place, envelope), reader)
+    let reader = m.in_phase(Phase::InSegment { len, at: at + size });
+    answered(Answer::Envelope(Buffer::Segment, place, envelope), reader)
 }
 
 // n bytes from at on to the front; the bytes behind them keep what they held. What stands there already is not touched: a call costs no more than the bytes that it
 // takes and reads.
+#[tactic(auto, unfolding(types::specs::Write::put))]
 fn move_down(buffer: &mut [u8], at: usize, n: usize)
     requires { at + n ≤ length buffer.old }
     ensures { buffer.new ≡ moved_down buffer.old at n }
 {
-    if at == 0 {
-        return;
-    }
-    let mut i: usize = 0;
-    while i < n {
-        buffer[i] = buffer[at + i];
-        i += 1;
+    if at != 0 {
+        buffer.copy_within(at..at + n, 0);
     }
 }
 
@@ -124,24 +130,22 @@ fn from_pending(m: FrameDecoder, reassembly: &mut [u8], at: usize) -> Due
     ensures { settled (paper_due result) reassembly.new ≡ read_pending (paper_reader m) reassembly.old at }
 {
     let end = m.pending;
-    let reading = read_envelope(&reassembly[at..end]);
-    if let Reading::Refused(e) = reading {
-        return refuse(m, e);
-    }
-    let Reading::Whole(envelope) = reading else {
+    let reading = match read_envelope(&reassembly[at..end]) {
+        Ok(reading) => reading,
+        Err(e) => return refuse(m, e),
+    };
+    let Some(envelope) = reading else {
         let unread = end - at;
         move_down(reassembly, at, unread);
-        let waiting = m.kept(unread, Phase::Header { filled: 0 });
-        return Due::Waits(waiting);
+        return waits(m.kept(unread, Phase::Header { filled: 0 }));
     };
     let size = envelope.size;
-    let next = at + size;
-    let reader = m.in_phase(Phase::InReassembly { at: next });
     let place = Place {
         start: at,
         len: size,
     };
-    Due::Answered(
+    let reader = m.in_phase(Phase::InReassembly { at: at + size });
+    answered(
         Answer::Envelope(Buffer::Reassembly, place, envelope),
         reader,
     )
@@ -152,14 +156,25 @@ fn append(m: FrameDecoder, payload: &[u8], reassembly: &mut [u8]) -> Due
     requires { m.pending ≤ length reassembly.old }
     ensures { settled (paper_due result) reassembly.new ≡ read_joined (paper_reader m) reassembly.old payload.now }
 {
-    let pending = m.pending;
     let len = payload.len();
-    if len <= reassembly.len() - pending {
-        put_bytes(&mut reassembly[pending..], 0, payload);
-        let joined = m.kept(pending + len, Phase::InReassembly { at: 0 });
-        return from_pending(joined, reassembly, 0);
+    if reassembly.len() - m.pending < len {
+        return refuse(m, Refusal::ReassemblyTooShort);
     }
-    refuse(m, Refusal::ReassemblyTooShort)
+    put_bytes(&mut reassembly[m.pending..], 0, payload);
+    let joined = m.kept(m.pending + len, Phase::InReassembly { at: 0 });
+    from_pending(joined, reassembly, 0)
+}
+
+// A self-contained segment: 6, or its payload is read where it stands.
+fn alone(m: FrameDecoder, segment: &[u8], len: usize) -> Due
+    requires { header_length (paper_form m.form) + len ≤ length segment.now }
+    ensures { paper_due result ≡ read_alone (paper_reader m) segment.now len }
+{
+    if m.pending != 0 {
+        return refuse(m, Refusal::UnexpectedSelfContained);
+    }
+    let reader = m.in_phase(Phase::InSegment { len, at: 0 });
+    from_segment(reader, segment, len, 0)
 }
 
 // So many bytes of a segment are there whose header has passed: 5, then 6 or 7.
@@ -174,28 +189,19 @@ fn segment_due(
     requires { (len ≤ max_payload) × (segment_length (paper_form m.form) len ≤ length segment.now) × (filled ≤ segment_length (paper_form m.form) len) × (m.pending ≤ length reassembly.old) }
     ensures { settled (paper_due result) reassembly.new ≡ segment_due (paper_reader m) segment.now reassembly.old len (payload_at (paper_form m.form) (take filled segment.now) (fields_are len 0 self_contained)) }
 {
-    let form = m.form;
     let header = Header {
         payload: len as u32,
         uncompressed: 0,
         self_contained,
     };
-    match read_payload(form, &segment[..filled], header) {
-        ReadPayload::Incomplete => Due::Waits(m),
-        ReadPayload::Whole => {
-            if self_contained {
-                let pending = m.pending;
-                if pending == 0 {
-                    let alone = m.in_phase(Phase::InSegment { len, at: 0 });
-                    return from_segment(alone, segment, len, 0);
-                }
-                return refuse(m, Refusal::UnexpectedSelfContained);
-            }
-            let start = header_len(form);
-            let end = start + len;
-            append(m, &segment[start..end], reassembly)
+    match read_payload(m.form, &segment[..filled], header) {
+        Ok(false) => waits(m),
+        Ok(true) if self_contained => alone(m, segment, len),
+        Ok(true) => {
+            let start = header_len(m.form);
+            append(m, &segment[start..start + len], reassembly)
         }
-        ReadPayload::Refused(e) => refuse(m, e),
+        Err(e) => refuse(m, e),
     }
 }
 
@@ -203,8 +209,7 @@ pub(crate) fn settle(m: FrameDecoder, segment: &[u8], reassembly: &mut [u8]) -> 
     requires { Admitted (paper_reader m) (length segment.now) (length reassembly.old) }
     ensures { settled (paper_due result) reassembly.new ≡ settle (paper_reader m) segment.now reassembly.old }
 {
-    let phase = m.phase;
-    match phase {
+    match m.phase {
         Phase::Header { filled } => header_due(m, segment, filled),
         Phase::Rest {
             filled,
@@ -213,6 +218,9 @@ pub(crate) fn settle(m: FrameDecoder, segment: &[u8], reassembly: &mut [u8]) -> 
         } => segment_due(m, segment, reassembly, filled, len, self_contained),
         Phase::InSegment { len, at } => from_segment(m, segment, len, at),
         Phase::InReassembly { at } => from_pending(m, reassembly, at),
-        Phase::Stopped(e) => Due::Answered(Answer::Refused(e), m),
+        Phase::Stopped(e) => Due {
+            answer: Some(Err(e)),
+            reader: m,
+        },
     }
 }

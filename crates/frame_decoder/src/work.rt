@@ -6,22 +6,20 @@ ghost use Rattle.frame_decoder.specs.Call.{work};
 ghost use Rattle.frame_decoder.specs.Paper.{paper_reader, paper_step};
 ghost use Rattle.frame_decoder.specs.Private.Inside.{Admitted, wanted, Roomy, step_of, FilledIs, TurnIs};
 
-use crate::settle::{Due, settle};
+use crate::settle::settle;
 use crate::{Answer, FrameDecoder, Heard, Phase, Step};
+use refusal::Refusal;
 use segment::{TRAILER_LEN, header_len};
+use std::ops::ControlFlow;
 use types::inner::put_bytes;
 
-pub(crate) fn step(reader: FrameDecoder, answer: Answer, taken: usize) -> Step
+pub(crate) fn step(reader: FrameDecoder, answer: Result<Answer, Refusal>, taken: usize) -> Step
     ensures { result ≡ step_of reader answer taken }
 {
-    let heard = Heard { answer, taken };
-    Step { reader, heard }
-}
-
-fn least(a: usize, b: usize) -> usize
-    ensures { (result ≡ min a b) × (result ≤ a) × (result ≤ b) }
-{
-    if a <= b { a } else { b }
+    Step {
+        reader,
+        heard: Heard { answer, taken },
+    }
 }
 
 // As many of the bytes as there is room for before end, and their number.
@@ -29,7 +27,7 @@ fn fill_up(segment: &mut [u8], filled: usize, end: usize, bytes: &[u8]) -> usize
     requires { (filled ≤ end) × (end ≤ length segment.old) }
     ensures { (result ≡ min (end - filled) (length bytes.now)) × (segment.new ≡ put segment.old filled (take result bytes.now)) }
 {
-    let took = least(end - filled, bytes.len());
+    let took = bytes.len().min(end - filled);
     put_bytes(segment, filled, &bytes[..took]);
     took
 }
@@ -39,18 +37,10 @@ fn goal(m: FrameDecoder) -> usize
     requires { (counts_of (paper_reader m)).goal ≤ max_segment }
     ensures { result ≡ (counts_of (paper_reader m)).goal }
 {
-    let form = m.form;
-    let phase = m.phase;
-    match phase {
-        Phase::Header { filled: _ } => header_len(form),
-        Phase::Rest {
-            filled: _,
-            len,
-            self_contained: _,
-        } => header_len(form) + len + TRAILER_LEN,
-        Phase::InSegment { len: _, at: _ } => 0,
-        Phase::InReassembly { at: _ } => 0,
-        Phase::Stopped(_) => 0,
+    match m.phase {
+        Phase::Header { .. } => header_len(m.form),
+        Phase::Rest { len, .. } => header_len(m.form) + len + TRAILER_LEN,
+        _ => 0,
     }
 }
 
@@ -59,24 +49,18 @@ fn pushed(m: FrameDecoder, k: usize) -> FrameDecoder
     requires { (k ≤ wanted (counts_of (paper_reader m))) × ((counts_of (paper_reader m)).goal ≤ max_segment) }
     ensures { paper_reader result ≡ pushed k (paper_reader m) }
 {
-    let phase = m.phase;
-    match phase {
+    match m.phase {
         Phase::Header { filled } => m.in_phase(Phase::Header { filled: filled + k }),
         Phase::Rest {
             filled,
             len,
             self_contained,
-        } => {
-            let grown = Phase::Rest {
-                filled: filled + k,
-                len,
-                self_contained,
-            };
-            m.in_phase(grown)
-        }
-        Phase::InSegment { len: _, at: _ } => m,
-        Phase::InReassembly { at: _ } => m,
-        Phase::Stopped(_) => m,
+        } => m.in_phase(Phase::Rest {
+            filled: filled + k,
+            len,
+            self_contained,
+        }),
+        _ => m,
     }
 }
 
@@ -85,37 +69,29 @@ fn fill(m: FrameDecoder, segment: &mut [u8], bytes: &[u8]) -> usize
     requires { Roomy (length segment.old) (counts_of (paper_reader m)) × (length segment.old ≤ max_segment) }
     ensures { FilledIs result (paper_reader m) segment.old segment.new bytes.now }
 {
-    let filled = m.filled();
-    fill_up(segment, filled, goal(m), bytes)
+    fill_up(segment, m.filled(), goal(m), bytes)
 }
 
-// What one turn leaves: the call's step, or a reader to go on with and how many bytes were taken so far.
-#[derive(Clone, Copy)]
-enum Turn {
-    Done(Step),
-    On(FrameDecoder, usize),
-}
-
-// Settles, and where nothing is due takes what it can of the rest of the piece.
+// Settles, and where nothing is due takes what it can of the rest of the piece: the call ends, or goes on with a reader and how many bytes were taken so far.
 fn take_turn(
     m: FrameDecoder,
     taken: usize,
     segment: &mut [u8],
     reassembly: &mut [u8],
     piece: &[u8],
-) -> Turn
+) -> ControlFlow<Step, (FrameDecoder, usize)>
     requires { Admitted (paper_reader m) (length segment.old) (length reassembly.old) × (taken ≤ length piece.now) }
     ensures { TurnIs result taken (paper_reader m) segment.old reassembly.old piece.now segment.new reassembly.new }
 {
-    match settle(m, segment, reassembly) {
-        Due::Answered(answer, reader) => Turn::Done(step(reader, answer, taken)),
-        Due::Waits(reader) => {
-            if taken == piece.len() {
-                return Turn::Done(step(reader, Answer::More, taken));
-            }
-            let took = fill(reader, segment, &piece[taken..]);
-            let next = taken + took;
-            Turn::On(pushed(reader, took), next)
+    let due = settle(m, segment, reassembly);
+    match due.answer {
+        Some(answer) => ControlFlow::Break(step(due.reader, answer, taken)),
+        None if taken == piece.len() => {
+            ControlFlow::Break(step(due.reader, Ok(Answer::More), taken))
+        }
+        None => {
+            let took = fill(due.reader, segment, &piece[taken..]);
+            ControlFlow::Continue((pushed(due.reader, took), taken + took))
         }
     }
 }
@@ -131,16 +107,11 @@ pub(crate) fn work(
     ensures { paper_step result segment.new reassembly.new ≡ work 0 (paper_reader reader) segment.old reassembly.old piece.now }
 {
     let mut m = reader;
-    let mut taken: usize = 0;
+    let mut taken = 0;
     loop {
         match take_turn(m, taken, segment, reassembly, piece) {
-            Turn::Done(s) => {
-                return s;
-            }
-            Turn::On(next, so_far) => {
-                m = next;
-                taken = so_far;
-            }
+            ControlFlow::Break(step) => return step,
+            ControlFlow::Continue(next) => (m, taken) = next,
         }
     }
 }

@@ -1,36 +1,24 @@
 -- What the checks of a segment writer say, and what is known where they have passed. Assumes nothing.
-use Prim.Native.Nat.{ℕ, ◌+◌, ◌-◌, ◌≤◌, ◌<◌}
-use mathlib.Core.Path.{◌≡◌, sym, ap, ◌∙◌}
-use mathlib.Core.Bool.{Bool, true, false, cond}
+use Prim.Native.Nat.{ℕ, ◌+◌, ◌≤◌, ◌<◌}
+use mathlib.Core.Path.{◌≡◌, ap}
+use mathlib.Core.Bool.{Bool, true, cond}
 use mathlib.Core.List.{List}
 use native.Mathlib.Decide.{dec_le}
 use native.Mathlib.Nat.{lt_of_not-le}
 use native.Mathlib.Omega.{arith}
-use borrow.Author.Tests.{le-leb, lt-leb, lt-ltb, le-ltb, leb-true, ltb-true, eqb-true}
+use borrow.Author.Tests.{le-leb, lt-leb, leb-true, ltb-true, eqb-true}
 use lib.Dec.{leb, eqb}
-use Rattle.refusal.specs.Refusal.{Refusal, inadmissible, output_too_short, envelope_does_not_fit, segment_not_empty}
-use Rattle.types.specs.Write.{Check, fine, against}
+use Rattle.refusal.specs.Refusal.{inadmissible, output_too_short, envelope_does_not_fit, segment_not_empty}
+use Rattle.types.specs.Write.{Check, fine}
 use Rattle.types.proofs.Cut.{demand_fine}
 use Rattle.segment.specs.Header.{lengths}
 use Rattle.segment.specs.Segment.{max_payload, segment_length}
-use Rattle.frame_encoder.specs.Writer.{Writer, Done, done, refused, unless, fits, room_for, add_check, finish_check, piece_of, piece_check}
+use Rattle.frame_encoder.specs.Writer.{Writer, Done, unless, fits, room_for, add_check, finish_check, piece_of, piece_check}
 
 -- ---- whether an envelope fits
 
 module _ (w : Writer) (n : ℕ) where
-  pub fits_within : w.payload ≤ max_payload → leb n (max_payload - w.payload) ≡ fits w n
-  unfolding fits
-  fits_within h =
-      elim (dec_le n (max_payload - w.payload)) [
-        | yes k ↦ le-leb n (max_payload - w.payload) k ∙ sym (lt-ltb (w.payload + n) lengths (omega arith))
-        | no k ↦ let l : max_payload - w.payload < n = lt_of_not-le k in lt-leb n (max_payload - w.payload) l ∙ sym (le-ltb (w.payload + n) lengths (omega arith))
-      ]
-
-  pub fits_never : max_payload < w.payload → fits w n ≡ false
-  unfolding fits
-  fits_never h = le-ltb (w.payload + n) lengths (omega arith)
-
-  pub fits_small : fits w n ≡ true → w.payload + n ≤ max_payload
+  fits_small : fits w n ≡ true → w.payload + n ≤ max_payload
   unfolding fits
   fits_small e = omega (arith, ltb-true (w.payload + n) lengths e)
 
@@ -99,6 +87,3 @@ piece_some n some =
 
 pub unless_fine : {c : Check} (w : Writer) (out : List ℕ) (d : Done) → c ≡ fine → unless c w out d ≡ d
 unless_fine w out d e = ap (λ (c : Check). unless c w out d) e
-
-pub unless_against : {c : Check} {why : Refusal} (w : Writer) (out : List ℕ) (d : Done) → c ≡ against why → unless c w out d ≡ done w (refused why) out
-unless_against w out d e = ap (λ (c : Check). unless c w out d) e

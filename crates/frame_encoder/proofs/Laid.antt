@@ -6,7 +6,7 @@ use mathlib.Core.List.{List, ◌++◌, append_assoc}
 use native.Mathlib.Nat.{zero-add}
 use native.Mathlib.Omega.{arith}
 use lib.ListN.{length, take, drop, length-append}
-use lib.Seq.{drop-drop, drop-append-add}
+use lib.Seq.{length-take-le, drop-drop, drop-append-add}
 use Rattle.crc.specs.Check32.{crc32}
 use Rattle.types.specs.Number.{part}
 use Rattle.types.specs.Write.{put}
@@ -100,3 +100,10 @@ piece_laid f self out p room {m} {l} {n} {k} e i q r =
     r
     ∙ ap₂ (λ (x y : List ℕ). put x 0 (segment_bytes f self y)) here stands
     ∙ put_over out (header_length f) p (segment_bytes f self p) long fits
+
+-- the same of the front of an envelope
+pub front_laid : (f : Form) (self : Bool) (out envelope m l : List ℕ) (n k : ℕ) → n ≤ length envelope → segment_length f n ≤ length out → k ≡ header_length f
+    → m ≡ put out k (take n envelope) → l ≡ put m 0 (segment_bytes f self (part m (header_length f) n)) → l ≡ put out 0 (segment_bytes f self (take n envelope))
+front_laid f self out envelope m l n k short room i q r =
+    let e : length (take n envelope) ≡ n = length-take-le n envelope short in
+    piece_laid f self out (take n envelope) (subst (λ (j : ℕ). segment_length f j ≤ length out) (sym e) room) (sym e) i q r

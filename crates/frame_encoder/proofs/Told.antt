@@ -1,6 +1,8 @@
 -- What an answer means says the answer. Assumes nothing.
 use Prim.Native.Nat.{ℕ}
 use mathlib.Core.Path.{refl, ap, ap₂}
+use Rattle.std.specs.Prelude.{Result, Ok, Err}
+use Rattle.refusal.specs.declared.Refusal.{Refusal}
 use mathlib.Core.List.{List}
 use Rattle.basis.proofs.Determined.{Tells}
 use Rattle.refusal.proofs.Numbers.{case_of, case_of_paper}
@@ -8,7 +10,7 @@ use Rattle.segment.proofs.Told.{form_told}
 use Rattle.frame_encoder.specs.Writer.{wrote, refused, done}
 use Rattle.frame_encoder.specs.Paper.{paper_writer, paper_encoded, paper_step}
 use Rattle.frame_encoder.specs.declared.FrameEncoder.{FrameEncoder}
-use Rattle.frame_encoder.specs.declared.Encoded.{Encoded}
+use Rattle.frame_encoder.specs.declared.Wrote.{Wrote}
 use Rattle.frame_encoder.specs.declared.Step.{Step}
 
 pub encoder_told : Tells paper_writer
@@ -19,13 +21,13 @@ encoder_told = record {
 
 encoded_told : Tells paper_encoded
 encoded_told = record {
-  back = elim [ wrote size taken ↦ Encoded.Wrote size taken | refused why ↦ Encoded.Refused (case_of why) ];
-  is = elim [ Encoded.Wrote size taken ↦ refl | Encoded.Refused e ↦ ap Encoded.Refused (case_of_paper e) ];
+  back = elim [ wrote size taken ↦ Ok (record { size = size; taken = taken }) | refused why ↦ Err (case_of why) ];
+  is = elim [ Ok w ↦ refl | Err e ↦ ap Err (case_of_paper e) ];
 }
 
 -- the writer, the answer and what the output then holds
 abbrev pub Lent : Type 0
-Lent = (FrameEncoder × Encoded) × List ℕ
+Lent = (FrameEncoder × Result Wrote Refusal) × List ℕ
 
 pub lent_told : Tells (λ (l : Lent). done (paper_writer l.0.0) (paper_encoded l.0.1) l.1)
 lent_told = record {

@@ -1,8 +1,8 @@
 -- The refusals, and the number of each: docs/RULES.md, section 9. Assumes nothing.
 use Rattle.std.specs.Prelude.{ℕ, cond, List, [], ◌∷◌, eqb}
+use Rattle.std.specs.Prelude as std
 use Rattle.std.proofs.Math.Option.{Option, none, some}
 use Rattle.refusal.specs.declared.Refusal as code
-use Rattle.refusal.specs.declared.Numbered.{Numbered}
 
 -- Definitions hand a refusal on as a value; only where it is shown does it become a number.
 pub data Refusal : Type 0 where
@@ -82,6 +82,6 @@ paper_refusal code.Refusal.SegmentNotEmpty = segment_not_empty
 abbrev pub number_of : code.Refusal → ℕ
 number_of e = refusal_number (paper_refusal e)
 
-abbrev pub paper_numbered : Numbered → Option Refusal
-paper_numbered (Numbered.Stands e) = some (paper_refusal e)
-paper_numbered Numbered.Nothing = none
+abbrev pub paper_numbered : std.Option code.Refusal → Option Refusal
+paper_numbered (std.Some e) = some (paper_refusal e)
+paper_numbered std.None = none

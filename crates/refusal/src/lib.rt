@@ -4,42 +4,42 @@
 ghost use Rattle.std.specs.Prelude.{◌≡◌};
 ghost use Rattle.refusal.specs.Refusal.{number_of, refusal_of, paper_numbered};
 
-#[derive(Clone, Copy)]
+#[derive(Clone, Copy, Debug, PartialEq, Eq)]
 pub enum Refusal {
     // A lent length or a count in the state that was handed in is out of its range.
-    Inadmissible,
+    Inadmissible = 1,
     // A segment's header and the CRC24 that follows it disagree.
-    HeaderCheckDiffers,
+    HeaderCheckDiffers = 2,
     // A long header says that the payload was compressed.
-    PayloadCompressed,
+    PayloadCompressed = 3,
     // A segment is longer than the lent segment buffer.
-    SegmentTooLong,
+    SegmentTooLong = 4,
     // A segment's payload and the CRC32 that follows it disagree.
-    PayloadCheckDiffers,
+    PayloadCheckDiffers = 5,
     // A self-contained segment came while an envelope was still in pieces.
-    UnexpectedSelfContained,
+    UnexpectedSelfContained = 6,
     // The pieces of an envelope are longer than the lent reassembly buffer.
-    ReassemblyTooShort,
+    ReassemblyTooShort = 7,
     // A length that has to count bytes is below zero.
-    NegativeLength,
+    NegativeLength = 8,
     // An envelope's version is none of 3, 4 and 5.
-    UnknownVersion,
+    UnknownVersion = 9,
     // An envelope's opcode stands for no message.
-    UnknownOpcode,
+    UnknownOpcode = 10,
     // A body ends before its tracing id does.
-    TracingIdCutShort,
+    TracingIdCutShort = 11,
     // A notation runs past the end of the bytes that it stands in.
-    PastEnd,
+    PastEnd = 12,
     // A text is not UTF-8.
-    NotUtf8,
+    NotUtf8 = 13,
     // What was to be written is longer than the room in the output.
-    OutputTooShort,
+    OutputTooShort = 14,
     // The fields given stand for no bytes.
-    NotWritable,
+    NotWritable = 15,
     // An envelope does not fit behind what the segment already holds.
-    EnvelopeDoesNotFit,
+    EnvelopeDoesNotFit = 16,
     // A piece was asked of a segment that already holds something.
-    SegmentNotEmpty,
+    SegmentNotEmpty = 17,
 }
 
 impl Refusal {
@@ -47,57 +47,33 @@ impl Refusal {
     pub fn number(self) -> u8
         ensures { result ≡ number_of self }
     {
-        match self {
-            Refusal::Inadmissible => 1,
-            Refusal::HeaderCheckDiffers => 2,
-            Refusal::PayloadCompressed => 3,
-            Refusal::SegmentTooLong => 4,
-            Refusal::PayloadCheckDiffers => 5,
-            Refusal::UnexpectedSelfContained => 6,
-            Refusal::ReassemblyTooShort => 7,
-            Refusal::NegativeLength => 8,
-            Refusal::UnknownVersion => 9,
-            Refusal::UnknownOpcode => 10,
-            Refusal::TracingIdCutShort => 11,
-            Refusal::PastEnd => 12,
-            Refusal::NotUtf8 => 13,
-            Refusal::OutputTooShort => 14,
-            Refusal::NotWritable => 15,
-            Refusal::EnvelopeDoesNotFit => 16,
-            Refusal::SegmentNotEmpty => 17,
-        }
+        self as u8
     }
 }
 
-// What a number stands for.
-#[derive(Clone, Copy)]
-pub enum Numbered {
-    Stands(Refusal),
-    Nothing,
-}
-
 // The way back from a number.
-pub fn of_number(n: usize) -> Numbered
+#[tactic(auto, unfolding(crate::specs::Refusal::refusal_of))]
+pub fn of_number(n: usize) -> Option<Refusal>
     ensures { paper_numbered result ≡ refusal_of n }
 {
     match n {
-        1 => Numbered::Stands(Refusal::Inadmissible),
-        2 => Numbered::Stands(Refusal::HeaderCheckDiffers),
-        3 => Numbered::Stands(Refusal::PayloadCompressed),
-        4 => Numbered::Stands(Refusal::SegmentTooLong),
-        5 => Numbered::Stands(Refusal::PayloadCheckDiffers),
-        6 => Numbered::Stands(Refusal::UnexpectedSelfContained),
-        7 => Numbered::Stands(Refusal::ReassemblyTooShort),
-        8 => Numbered::Stands(Refusal::NegativeLength),
-        9 => Numbered::Stands(Refusal::UnknownVersion),
-        10 => Numbered::Stands(Refusal::UnknownOpcode),
-        11 => Numbered::Stands(Refusal::TracingIdCutShort),
-        12 => Numbered::Stands(Refusal::PastEnd),
-        13 => Numbered::Stands(Refusal::NotUtf8),
-        14 => Numbered::Stands(Refusal::OutputTooShort),
-        15 => Numbered::Stands(Refusal::NotWritable),
-        16 => Numbered::Stands(Refusal::EnvelopeDoesNotFit),
-        17 => Numbered::Stands(Refusal::SegmentNotEmpty),
-        _ => Numbered::Nothing,
+        1 => Some(Refusal::Inadmissible),
+        2 => Some(Refusal::HeaderCheckDiffers),
+        3 => Some(Refusal::PayloadCompressed),
+        4 => Some(Refusal::SegmentTooLong),
+        5 => Some(Refusal::PayloadCheckDiffers),
+        6 => Some(Refusal::UnexpectedSelfContained),
+        7 => Some(Refusal::ReassemblyTooShort),
+        8 => Some(Refusal::NegativeLength),
+        9 => Some(Refusal::UnknownVersion),
+        10 => Some(Refusal::UnknownOpcode),
+        11 => Some(Refusal::TracingIdCutShort),
+        12 => Some(Refusal::PastEnd),
+        13 => Some(Refusal::NotUtf8),
+        14 => Some(Refusal::OutputTooShort),
+        15 => Some(Refusal::NotWritable),
+        16 => Some(Refusal::EnvelopeDoesNotFit),
+        17 => Some(Refusal::SegmentNotEmpty),
+        _ => None,
     }
 }

@@ -1,28 +1,31 @@
 -- Laws of numbers whose first byte has least weight, said over how many bytes there are. Assumes nothing.
 use Prim.Native.Nat.{ℕ, zero, suc, ◌+◌, ◌*◌, ◌-◌, ◌/◌, ◌%◌, ◌^◌, ◌≤◌, ◌<◌}
 use mathlib.Core.Path.{◌≡◌, refl, sym, ap, ap₂, ◌∙◌}
-use mathlib.Core.List.{List, [], ◌∷◌, ◌++◌}
+use mathlib.Core.List.{List, [], ◌∷◌, ◌++◌, append_assoc, append-nil}
 use native.Mathlib.Omega.{arith}
-use native.Mathlib.Numerals.{add-one}
-use native.Mathlib.Nat.{add_assoc, add-zero, pow-suc, zero-lt-suc, mod-one, mod-eq_of_lt, mod-lt}
+use native.Mathlib.Numerals.{add-one, sub-one}
+use native.Mathlib.Nat.{pow-le-pow_right, one-le-pow, mul-le-mul_left, pow-suc, zero-lt-suc, mod-one, mod-eq_of_lt, mod-lt}
 use lib.Arith.{digits_lt, digits_div, digits_mod}
-use lib.ListN.{length, take, drop, set, get_or}
-use lib.Seq.{drop-cons, set_split, append_snoc}
+use lib.ListN.{length-append, length, take, set, get_or}
+use lib.Seq.{take_all}
+use mir.Syntax.{w8, w64}
+use mir.Val.{Fits}
+use borrow.Rule.Slice.PartMut.{put_mid}
+use Rattle.std.proofs.lemmas.Grind.{take-set_at}
+use Rattle.std.proofs.lemmas.Slice.{put_mid-paste}
 use Rattle.basis.specs.Bytes.{Bytes}
 use Rattle.types.specs.Number.{part}
 use Rattle.types.specs.Write.{put}
-use Rattle.types.proofs.BigEndian.{digit_more}
-use Rattle.types.proofs.Put.{put_put, put_none}
+use Rattle.types.proofs.BigEndian.{length_part, bytes_part, digit_more}
+use Rattle.types.proofs.Put.{paste_all}
 use Rattle.segment.specs.LittleEndian.{le, le_digits}
 
--- ---- one byte more, in front
+-- ---- one byte more, behind
 
-pub part_cons : (s : List ℕ) (at k : ℕ) → at < length s → part s at (suc k) ≡ get_or s at 0 ∷ part s (suc at) k
-part_cons s at k h = ap (take (suc k)) (drop-cons s at 0 h)
-
-pub le_part_cons : (s : List ℕ) (at k : ℕ) → at < length s → le (part s at (suc k)) ≡ le (part s (suc at) k) * 256 + get_or s at 0
+le_snoc : (s : List ℕ) (b : ℕ) → le (s ++ (b ∷ [])) ≡ b * 256 ^ length s + le s
 unfolding le
-le_part_cons s at k h = ap le (part_cons s at k h)
+le_snoc [] b = omega arith
+le_snoc (x ∷ s) b = rw (pow-suc 256 (length s)) (omega (arith, le_snoc s b))
 
 -- ---- the bytes of a number
 
@@ -64,50 +67,61 @@ le_below zero (x ∷ s) e b = let f : ⊥ = omega arith in absurd f
 le_below (suc n) [] e b = let f : ⊥ = omega arith in absurd f
 le_below (suc n) (x ∷ s) e b = let l : length s ≡ n = omega arith in rw pow-suc (digits_lt (le_below n s l (λ i. b (suc i))) (b 0))
 
--- ---- written byte by byte
-
-put_set : (out : List ℕ) (at b : ℕ) → at < length out → set out at b ≡ put out at (b ∷ [])
-unfolding put
-put_set out at b h =
-    set_split out at b h ∙ sym (append_snoc (take at out) b (drop (suc at) out)) ∙ ap (λ (k : ℕ). take at out ++ (b ∷ []) ++ drop k out) (sym (add-one at))
-
--- the first byte is there, the others behind it
-pub put_first : (out : List ℕ) (at n x : ℕ) → at + suc n ≤ length out → put (set out at (x % 256)) (at + 1) (le_digits n (x / 256)) ≡ put out at (le_digits (suc n) x)
-unfolding le_digits
-put_first out at n x h =
-    let l : length (le_digits n (x / 256)) ≡ n = length_le n (x / 256) in
-    ap (λ (o : List ℕ). put o (at + 1) (le_digits n (x / 256))) (put_set out at (x % 256) (omega arith))
-    ∙ put_put out at (x % 256 ∷ []) (le_digits n (x / 256)) (omega arith)
-
 -- ---- turns of a loop
 
--- reading, from the last byte down
-pub le_next : (s : List ℕ) (at n left : ℕ) → 0 < left → left ≤ n → at + n ≤ length s
-    → le (part s (at + left) (n - left)) * 256 + get_or s (at + (left - 1)) 0 ≡ le (part s (at + (left - 1)) (n - (left - 1)))
-le_next s at n left h k room =
-    let m : n - (left - 1) ≡ suc (n - left) = omega arith in
-    let a : suc (at + (left - 1)) ≡ at + left = omega arith in
-    sym
-    (ap (λ (j : ℕ). le (part s (at + (left - 1)) j)) m
-    ∙ le_part_cons s (at + (left - 1)) (n - left) (omega arith)
-    ∙ ap (λ (j : ℕ). le (part s j (n - left)) * 256 + get_or s (at + (left - 1)) 0) a)
+-- reading, from the last byte down: v is the number of the bytes read, `rest` are those that are left, and t is the number of all
+pub le_next : (v b t : ℕ) (rest next : List ℕ) → rest ≡ next ++ (b ∷ []) → v * 256 ^ length rest + le rest ≡ t → (v * 256 + b) * 256 ^ length next + le next ≡ t
+le_next v b t rest next e h =
+    let more : length rest ≡ suc (length next) = ap length e ∙ length-append next (b ∷ []) ∙ add-one (length next) in
+    let k : v * 256 ^ suc (length next) + (b * 256 ^ length next + le next) ≡ t = ap₂ (λ (n m : ℕ). v * 256 ^ n + m) (sym more) (sym (ap le e ∙ le_snoc next b)) ∙ h in
+    let j : v * (256 ^ length next * 256) + (b * 256 ^ length next + le next) ≡ t = rw pow-suc at k in
+    omega arith
 
-pub le_none : (s : List ℕ) (at n : ℕ) → 0 ≡ le (part s (at + n) (n - n))
+pub le_none : (v t : ℕ) (rest : List ℕ) → length rest ≡ 0 → v * 256 ^ length rest + le rest ≡ t → v ≡ t
 unfolding le
-le_none s at n = ap (λ (k : ℕ). le (part s (at + n) k)) (let z : 0 ≡ n - n = omega arith in z)
+le_none v t [] e h = omega arith
+le_none v t (b ∷ rest) e h = let f : ⊥ = omega arith in absurd f
 
--- writing, from the first byte up
-pub put_begin : (out : List ℕ) (at n x : ℕ) → put out (at + 0) (le_digits (n - 0) x) ≡ put out at (le_digits n x)
-put_begin out at n x = ap₂ (λ (k m : ℕ). put out k (le_digits m x)) (add-zero at) (let z : n - 0 ≡ n = omega arith in z)
+module _ (s : List ℕ) (at n : ℕ) (bytes : (i : ℕ) → Fits w8 (get_or s i 0)) (room : at + n ≤ length s) where
+  pub part_below : le (part s at n) < 256 ^ n
+  part_below = le_below n (part s at n) (length_part s at n room) (bytes_part s at n (λ i. (bytes i).fits))
 
-pub put_next : (out : List ℕ) (at n i x : ℕ) → i < n → at + n ≤ length out
-    → put (set out (at + i) (x % 256)) (at + (i + 1)) (le_digits (n - (i + 1)) (x / 256)) ≡ put out (at + i) (le_digits (n - i) x)
-put_next out at n i x h room =
-    let m : suc (n - (i + 1)) ≡ n - i = omega arith in
-    ap (λ (k : ℕ). put (set out (at + i) (x % 256)) k (le_digits (n - (i + 1)) (x / 256))) (sym (add_assoc at i 1))
-    ∙ put_first out (at + i) (n - (i + 1)) x (omega arith)
-    ∙ ap (λ (k : ℕ). put out (at + i) (le_digits k x)) m
+  module _ (few : n ≤ 8) (v b : ℕ) (rest next : List ℕ) (left : rest ≡ next ++ (b ∷ [])) (all : v * 256 ^ length rest + le rest ≡ le (part s at n)) where
+    pub sum_fits : Fits w64 (v * 256 + b)
+    sum_fits =
+        let l : 256 ^ n ≤ 256 ^ 8 = pow-le-pow_right {n = 256} (zero-lt-suc 255) {j = 8} few in
+        let k : (v * 256 + b) * 256 ^ length next + le next ≡ le (part s at n) = le_next v b (le (part s at n)) rest next left all in
+        record { fits = omega (arith, part_below, mul-le-mul_left (v * 256 + b) (one-le-pow (length next) 256 (zero-lt-suc 255))) }
 
-pub put_end : (out : List ℕ) (at n i x : ℕ) → n ≤ i → out ≡ put out (at + i) (le_digits (n - i) x)
+    pub product_fits : Fits w64 (v * 256)
+    product_fits = let s = sum_fits.fits in record { fits = omega arith }
+
+pub ruleset reading = (le_next, le_none, part_below, sum_fits, product_fits)
+
+-- writing, from the first byte up: i bytes are written, and `rest` is what is left of x
+le_first : (n x : ℕ) → 0 < n → le_digits n x ≡ x % 256 ∷ le_digits (n - 1) (x / 256)
 unfolding le_digits
-put_end out at n i x h = sym (ap (λ (k : ℕ). put out (at + i) (le_digits k x)) (let z : n - i ≡ 0 = omega arith in z) ∙ put_none out (at + i))
+le_first zero x h = let f : ⊥ = omega arith in absurd f
+le_first (suc n) x h = rw sub-one
+
+module _ (s : List ℕ) (n i x rest : ℕ) (len : length s ≡ n) (done : take i s ++ le_digits (n - i) rest ≡ le_digits n x) where
+  pub written_next : i < n → take (i + 1) (set s i (rest % 256)) ++ le_digits (n - (i + 1)) (rest / 256) ≡ le_digits n x
+  written_next h =
+      ap (λ (l : List ℕ). l ++ le_digits (n - (i + 1)) (rest / 256)) (take-set_at s i (i + 1) (rest % 256) refl (omega arith))
+      ∙ append_assoc (take i s) (rest % 256 ∷ []) (le_digits (n - (i + 1)) (rest / 256))
+      ∙ ap (λ (k : ℕ). take i s ++ (rest % 256 ∷ le_digits k (rest / 256))) (let z : n - (i + 1) ≡ n - i - 1 = omega arith in z)
+      ∙ ap (λ (l : List ℕ). take i s ++ l) (sym (le_first (n - i) rest (omega arith)))
+      ∙ done
+
+  written_all : n ≤ i → s ≡ le_digits n x
+  unfolding le_digits
+  written_all h =
+      sym (append-nil s)
+      ∙ ap₂ (λ (l : List ℕ) (k : ℕ). l ++ le_digits k rest) (sym (take_all i s (omega arith))) (let z : 0 ≡ n - i = omega arith in z)
+      ∙ done
+
+  -- what stands where they were written
+  pub put_written : (out : List ℕ) (at : ℕ) → n ≤ i → put_mid at (at + n - at) out s ≡ put out at (le_digits n x)
+  put_written out at h = put_mid-paste at (at + n - at) out s s (length s) refl (omega arith) refl ∙ paste_all out at s ∙ ap (put out at) (written_all h)
+
+pub ruleset writing = (written_next, put_written)

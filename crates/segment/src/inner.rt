@@ -10,35 +10,33 @@ use crate::{CHECK_LEN, Form, Header};
 use crc::crc24;
 
 // The number of the n bytes from at on, the last byte first.
+#[tactic(auto, using(crate::proofs::LittleEndian::reading))]
 pub fn read_number(bytes: &[u8], at: usize, n: usize) -> u64
     requires { (n ≤ 8) × (at + n ≤ length bytes.now) }
     ensures { (result ≡ le (part bytes.now at n)) × (result < 256 ^ n) }
 {
-    let mut value: u64 = 0;
-    let mut left = n;
-    while 0 < left {
-        left -= 1;
-        let b = bytes[at + left] as u64;
-        value = value * 256 + b;
+    let mut value = 0;
+    for b in bytes[at..at + n].iter().rev() {
+        value = value * 256 + *b as u64;
     }
     value
 }
 
 // The n lowest bytes of x, from at on.
+#[tactic(auto, using(crate::proofs::LittleEndian::writing))]
 pub fn put_number(out: &mut [u8], at: usize, n: usize, x: u64)
     requires { at + n ≤ length out.old }
     ensures { out.new ≡ put out.old at (le_digits n x) }
 {
-    let mut i: usize = 0;
     let mut rest = x;
-    while i < n {
-        out[at + i] = (rest % 256) as u8;
-        rest = rest / 256;
-        i += 1;
+    for b in &mut out[at..at + n] {
+        *b = (rest % 256) as u8;
+        rest /= 256;
     }
 }
 
 // A header at the front of out.
+#[tactic(auto, using(crate::proofs::HeaderLaid::header_laid))]
 pub fn put_header(out: &mut [u8], form: Form, header: Header)
     requires { header_length (paper_form form) ≤ length out.old }
     ensures { out.new ≡ put out.old 0 (header_bytes (paper_form form) (paper_header header)) }

@@ -21,34 +21,18 @@ pub const CHECK_LEN: usize = 3;
 pub const TRAILER_LEN: usize = 4;
 
 // Fixed for a connection, and not to be told from the bytes.
-#[derive(Clone, Copy)]
+#[derive(Clone, Copy, Debug, PartialEq, Eq)]
 pub enum Form {
     Short,
     Long,
 }
 
 // What a header says. The short form has no length before compression.
-#[derive(Clone, Copy)]
+#[derive(Clone, Copy, Debug, PartialEq, Eq)]
 pub struct Header {
     pub payload: u32,
     pub uncompressed: u32,
     pub self_contained: bool,
-}
-
-// A header at the front of some bytes.
-#[derive(Clone, Copy)]
-pub enum ReadHeader {
-    Incomplete,
-    Whole(Header),
-    Refused(Refusal),
-}
-
-// The payload behind a header, and its check.
-#[derive(Clone, Copy)]
-pub enum ReadPayload {
-    Incomplete,
-    Whole,
-    Refused(Refusal),
 }
 
 // How many bytes of a header are its number; the others are the check of these.
@@ -81,6 +65,7 @@ fn self_weight(form: Form) -> u64
 }
 
 // The fields of a header's number; bits that are unused are ignored.
+#[tactic(auto, unfolding(crate::specs::Header::fields_of))]
 pub fn fields(form: Form, x: u64) -> Header
     ensures { paper_header result ≡ fields_of (paper_form form) x }
 {
@@ -120,6 +105,7 @@ fn self_part(form: Form, self_contained: bool) -> u64
 }
 
 // The number of a header with these fields; unused bits are 0, and of a length the lowest 17 bits count.
+#[tactic(auto, unfolding(crate::specs::Header::header_number))]
 pub fn header_number(form: Form, header: Header) -> u64
     ensures { result ≡ header_number (paper_form form) (paper_header header) }
 {
@@ -140,37 +126,37 @@ fn check_holds(form: Form, bytes: &[u8]) -> bool
     read == computed as u64
 }
 
-// The header at the front of the bytes, judged: 2, then 3.
-pub fn read_header(form: Form, bytes: &[u8]) -> ReadHeader
+// The header at the front of the bytes, once it is complete, judged: 2, then 3.
+#[tactic(auto, unfolding(crate::specs::Segment::header_at))]
+pub fn read_header(form: Form, bytes: &[u8]) -> Result<Option<Header>, Refusal>
     ensures { paper_read_header result ≡ header_at (paper_form form) bytes.now }
 {
     if bytes.len() < header_len(form) {
-        return ReadHeader::Incomplete;
+        return Ok(None);
     }
-    if check_holds(form, bytes) {
-        let x = inner::read_number(bytes, 0, number_len(form));
-        let header = fields(form, x);
-        if header.uncompressed == 0 {
-            return ReadHeader::Whole(header);
-        }
-        return ReadHeader::Refused(Refusal::PayloadCompressed);
+    if !check_holds(form, bytes) {
+        return Err(Refusal::HeaderCheckDiffers);
     }
-    ReadHeader::Refused(Refusal::HeaderCheckDiffers)
+    let header = fields(form, inner::read_number(bytes, 0, number_len(form)));
+    if header.uncompressed != 0 {
+        return Err(Refusal::PayloadCompressed);
+    }
+    Ok(Some(header))
 }
 
-// The payload behind a header that has passed, judged: 5.
-pub fn read_payload(form: Form, bytes: &[u8], header: Header) -> ReadPayload
+// Whether the payload behind a header that has passed is complete, judged: 5.
+#[tactic(auto, unfolding(crate::specs::Segment::payload_at))]
+pub fn read_payload(form: Form, bytes: &[u8], header: Header) -> Result<bool, Refusal>
     ensures { paper_read_payload result (behind (paper_form form) bytes.now (paper_header header)) ≡ payload_at (paper_form form) bytes.now (paper_header header) }
 {
     let start = header_len(form);
     let end = start + header.payload as usize;
     if bytes.len() < end + TRAILER_LEN {
-        return ReadPayload::Incomplete;
+        return Ok(false);
     }
     let computed = crc32(&bytes[start..end]);
-    let read = inner::read_number(bytes, end, TRAILER_LEN);
-    if read == computed as u64 {
-        return ReadPayload::Whole;
+    if inner::read_number(bytes, end, TRAILER_LEN) != computed as u64 {
+        return Err(Refusal::PayloadCheckDiffers);
     }
-    ReadPayload::Refused(Refusal::PayloadCheckDiffers)
+    Ok(true)
 }

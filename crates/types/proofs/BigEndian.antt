@@ -31,6 +31,9 @@ part_suc s at i h =
 pub be_part_suc : (s : List ℕ) (at i : ℕ) → at + i < length s → be (part s at (i + 1)) ≡ be (part s at i) * 256 + get_or s (at + i) 0
 be_part_suc s at i h = ap be (part_suc s at i h) ∙ be_snoc (part s at i) (get_or s (at + i) 0)
 
+pub be_take_suc : (s : List ℕ) (i : ℕ) → i < length s → be (take (i + 1) s) ≡ be (take i s) * 256 + get_or s i 0
+be_take_suc s i h = ap be (rw add-one (take-suc s i 0 h)) ∙ be_snoc (take i s) (get_or s i 0)
+
 pub more_below : (i : ℕ) {v b : ℕ} → v < 256 ^ i → b < 256 → v * 256 + b < 256 ^ (i + 1)
 more_below i hv hb = rw (add-one, pow-suc) (digits_lt hv hb)
 
@@ -53,8 +56,11 @@ bytes_take (suc n) [] b i = b i
 bytes_take (suc n) (x ∷ s) b zero = b zero
 bytes_take (suc n) (x ∷ s) b (suc i) = bytes_take n s (λ j. b (suc j)) i
 
+pub bytes_drop : (at : ℕ) (s : List ℕ) → Bytes s → Bytes (drop at s)
+bytes_drop at s b i = rw get_or-drop (b (at + i))
+
 pub bytes_part : (s : List ℕ) (at n : ℕ) → Bytes s → Bytes (part s at n)
-bytes_part s at n b = bytes_take n (drop at s) (λ i. rw get_or-drop (b (at + i)))
+bytes_part s at n b = bytes_take n (drop at s) (bytes_drop at s b)
 
 -- ---- the bytes of a number
 

@@ -16,8 +16,9 @@ use Rattle.types.specs.Write.{put, Check, Wrote, counted, cut_by, list_bytes, li
 use Rattle.types.specs.Answer.{Answer}
 use Rattle.types.specs.Notation.{Notation, byte, short, int, long, uuid, string, long_string, string_list, bytes, short_bytes}
 use Rattle.types.specs.Paper.{place_of, paper_written}
-use Rattle.types.specs.declared.Written.{Written}
-use Rattle.types.proofs.Told.{byte_told, short_told, int_told, long_told, part_told, bytes_told, strings_told, walked_told, writable_told, written_told}
+use Rattle.std.specs.Prelude as std
+use Rattle.refusal.specs.declared.Refusal.{Refusal}
+use Rattle.types.proofs.Told.{number_told, part_told, bytes_told, strings_told, walked_told, writable_told, written_told}
 use Rattle.types.proofs.part.Reads as hands
 use Rattle.types.proofs.inner.room.Reads as has_room
 use Rattle.types.proofs.inner.read_number.Reads as reads-number
@@ -88,16 +89,16 @@ by_reading {ℓ} :
 by_reading n tells = by_meaning tells (λ κs a. n.read a.0.now a.1.0)
 
 pub read_byte_determined : Determined reads_byte.Post
-read_byte_determined = by_reading byte byte_told
+read_byte_determined = by_reading byte number_told
 
 pub read_short_determined : Determined reads_short.Post
-read_short_determined = by_reading short short_told
+read_short_determined = by_reading short number_told
 
 pub read_int_determined : Determined Reads-Int.Post
-read_int_determined = by_reading int int_told
+read_int_determined = by_reading int number_told
 
 pub read_long_determined : Determined reads-long.Post
-read_long_determined = by_reading long long_told
+read_long_determined = by_reading long number_told
 
 pub read_uuid_determined : Determined reads-uuid.Post
 read_uuid_determined = by_reading uuid part_told
@@ -121,6 +122,10 @@ pub next_string_determined : Determined steps.Post
 next_string_determined = by_meaning walked_told (λ κs a. step_at a.0.now a.1.0.left a.1.0.at)
 
 -- ---- writers
+
+-- a writer's answer
+abbrev Written : Type 0
+Written = std.Result ℕ Refusal
 
 -- the answer, and what the output, which is lent first, then holds
 abbrev pub Outcome : Type 0

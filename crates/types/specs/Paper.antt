@@ -1,22 +1,15 @@
 -- What each case of an answer means: a value and a position, or a refusal. Assumes nothing.
-use Rattle.std.specs.Prelude.{ℕ, ℤ}
+use Rattle.std.specs.Prelude.{ℕ}
+use Rattle.std.specs.Prelude as std
 use Rattle.std.proofs.Math.Option.{Option, none, some}
 use Rattle.refusal.specs.Refusal.{paper_refusal}
+use Rattle.refusal.specs.declared.Refusal as why
 use Rattle.types.specs.Answer.{Answer, got, refused}
 use Rattle.types.specs.Read.{Place, place, Strings, strings}
 use Rattle.types.specs.Write.{Check, fine, against}
 use Rattle.types.specs.declared.Place as code
 use Rattle.types.specs.declared.Walk.{Walk}
-use Rattle.types.specs.declared.ReadByte.{ReadByte}
-use Rattle.types.specs.declared.ReadShort.{ReadShort}
-use Rattle.types.specs.declared.ReadInt.{ReadInt}
-use Rattle.types.specs.declared.ReadLong.{ReadLong}
-use Rattle.types.specs.declared.ReadPart.{ReadPart}
-use Rattle.types.specs.declared.ReadBytes.{ReadBytes}
-use Rattle.types.specs.declared.ReadStrings.{ReadStrings}
 use Rattle.types.specs.declared.Walked.{Walked}
-use Rattle.types.specs.declared.Writable.{Writable}
-use Rattle.types.specs.declared.Written.{Written}
 
 abbrev pub place_of : code.Place → Place
 place_of p = place p.start p.len
@@ -24,44 +17,38 @@ place_of p = place p.start p.len
 abbrev pub strings_of : Walk → Strings
 strings_of w = strings w.left w.at
 
-abbrev pub paper_byte : ReadByte → Answer ℕ
-paper_byte (ReadByte.Value value next) = got value next
-paper_byte (ReadByte.Refused e) = refused (paper_refusal e)
+-- what may not be there
+abbrev pub paper_option : {A B : Type 0} → (A → B) → std.Option A → Option B
+paper_option meaning (std.Some x) = some (meaning x)
+paper_option meaning std.None = none
 
-abbrev pub paper_short : ReadShort → Answer ℕ
-paper_short (ReadShort.Value value next) = got value next
-paper_short (ReadShort.Refused e) = refused (paper_refusal e)
+-- a value and the position behind it, by what a value means
+abbrev pub paper_read : {A B : Type 0} → (A → B) → std.Result (A × ℕ) why.Refusal → Answer B
+paper_read meaning (std.Ok r) = got (meaning r.0) r.1
+paper_read meaning (std.Err e) = refused (paper_refusal e)
 
-abbrev pub paper_int : ReadInt → Answer ℤ
-paper_int (ReadInt.Value value next) = got value next
-paper_int (ReadInt.Refused e) = refused (paper_refusal e)
+-- a number means itself
+abbrev pub paper_number : {A : Type 0} → std.Result (A × ℕ) why.Refusal → Answer A
+paper_number = paper_read (λ x. x)
 
-abbrev pub paper_long : ReadLong → Answer ℤ
-paper_long (ReadLong.Value value next) = got value next
-paper_long (ReadLong.Refused e) = refused (paper_refusal e)
+abbrev pub paper_part : std.Result (code.Place × ℕ) why.Refusal → Answer Place
+paper_part = paper_read place_of
 
-abbrev pub paper_part : ReadPart → Answer Place
-paper_part (ReadPart.Part p next) = got (place_of p) next
-paper_part (ReadPart.Refused e) = refused (paper_refusal e)
+abbrev pub paper_bytes : std.Result (std.Option code.Place × ℕ) why.Refusal → Answer (Option Place)
+paper_bytes = paper_read (paper_option place_of)
 
-abbrev pub paper_bytes : ReadBytes → Answer (Option Place)
-paper_bytes (ReadBytes.Null next) = got none next
-paper_bytes (ReadBytes.Part p next) = got (some (place_of p)) next
-paper_bytes (ReadBytes.Refused e) = refused (paper_refusal e)
+abbrev pub paper_strings : std.Result (Walk × ℕ) why.Refusal → Answer Strings
+paper_strings = paper_read strings_of
 
-abbrev pub paper_strings : ReadStrings → Answer Strings
-paper_strings (ReadStrings.Strings w next) = got (strings_of w) next
-paper_strings (ReadStrings.Refused e) = refused (paper_refusal e)
+abbrev pub paper_walked : std.Result Walked why.Refusal → Answer (Option (Place × ℕ))
+paper_walked (std.Ok (Walked.Text p w)) = got (some (place_of p, w.left)) w.at
+paper_walked (std.Ok (Walked.End next)) = got none next
+paper_walked (std.Err e) = refused (paper_refusal e)
 
-abbrev pub paper_walked : Walked → Answer (Option (Place × ℕ))
-paper_walked (Walked.Text p w) = got (some (place_of p, w.left)) w.at
-paper_walked (Walked.End next) = got none next
-paper_walked (Walked.Refused e) = refused (paper_refusal e)
+abbrev pub paper_writable : std.Result Unit why.Refusal → Check
+paper_writable (std.Ok u) = fine
+paper_writable (std.Err e) = against (paper_refusal e)
 
-abbrev pub paper_writable : Writable → Check
-paper_writable Writable.Yes = fine
-paper_writable (Writable.No e) = against (paper_refusal e)
-
-abbrev pub paper_written : Written → Answer Unit
-paper_written (Written.Next next) = got tt next
-paper_written (Written.Refused e) = refused (paper_refusal e)
+abbrev pub paper_written : std.Result ℕ why.Refusal → Answer Unit
+paper_written (std.Ok next) = got tt next
+paper_written (std.Err e) = refused (paper_refusal e)

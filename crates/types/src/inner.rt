@@ -4,27 +4,25 @@ ghost use Rattle.types.specs.Number.{be, part, digits};
 ghost use Rattle.types.specs.Write.{put, counted, lengths_fit, all_utf8, cut_by, strings_bytes, list_bytes, list_check};
 ghost use Rattle.types.specs.Paper.{paper_writable};
 
-use crate::{MAX_SHORT, Writable};
+use crate::MAX_SHORT;
 use refusal::Refusal;
 
 // n elements stand from at on in a slice of len; the second half tells a caller what that means.
 pub fn room(len: usize, at: usize, n: usize) -> bool
     ensures { (result ≡ leb (at + n) len) × (result ≡ true → at + n ≤ len) }
 {
-    if at <= len { n <= len - at } else { false }
+    at <= len && n <= len - at
 }
 
 // The number of the n bytes from at on.
+#[tactic(auto, unfolding(crate::specs::Number::be, crate::specs::Number::be_from))]
 pub fn read_number(bytes: &[u8], at: usize, n: usize) -> u64
     requires { (n ≤ 8) × (at + n ≤ length bytes.now) }
     ensures { (result ≡ be (part bytes.now at n)) × (result < 256 ^ n) }
 {
     let mut value: u64 = 0;
-    let mut i: usize = 0;
-    while i < n {
-        let b = bytes[at + i] as u64;
-        value = value * 256 + b;
-        i += 1;
+    for &b in &bytes[at..at + n] {
+        value = value * 256 + b as u64;
     }
     value
 }
@@ -34,25 +32,20 @@ pub fn put_number(out: &mut [u8], at: usize, n: usize, x: u64)
     requires { at + n ≤ length out.old }
     ensures { out.new ≡ put out.old at (digits n x) }
 {
-    let mut left = n;
     let mut rest = x;
-    while 0 < left {
-        left -= 1;
-        out[at + left] = (rest % 256) as u8;
-        rest = rest / 256;
+    for i in (0..n).rev() {
+        out[at + i] = (rest % 256) as u8;
+        rest /= 256;
     }
 }
 
 // All of src, from at on.
+#[tactic(auto, unfolding(crate::specs::Write::put))]
 pub fn put_bytes(out: &mut [u8], at: usize, src: &[u8])
     requires { at + length src.now ≤ length out.old }
     ensures { out.new ≡ put out.old at src.now }
 {
-    let mut i: usize = 0;
-    while i < src.len() {
-        out[at + i] = src[i];
-        i += 1;
-    }
+    out[at..at + src.len()].copy_from_slice(src);
 }
 
 // All of src behind its count of n bytes, from at on.
@@ -69,17 +62,11 @@ fn lengths_fit(sum: usize, lens: &[usize]) -> bool
     ensures { result ≡ lengths_fit sum lens.now }
 {
     let mut left = sum;
-    let mut i: usize = 0;
-    while i < lens.len() {
-        let n = lens[i];
-        if MAX_SHORT < n {
-            return false;
-        }
-        if left < n {
+    for &n in lens {
+        if MAX_SHORT < n || left < n {
             return false;
         }
         left -= n;
-        i += 1;
     }
     left == 0
 }
@@ -90,35 +77,28 @@ fn texts_fit(text: &[u8], lens: &[usize]) -> bool
     ensures { result ≡ all_utf8 (cut_by text.now lens.now) }
 {
     let mut at: usize = 0;
-    let mut i: usize = 0;
-    while i < lens.len() {
-        let end = at + lens[i];
-        if utf8::is_utf8(&text[at..end]) {
-            at = end;
-        } else {
+    for &n in lens {
+        let end = at + n;
+        if !utf8::is_utf8(&text[at..end]) {
             return false;
         }
-        i += 1;
+        at = end;
     }
     true
 }
 
 // One text that is cut by a list of lengths may be written as a list of strings.
-pub fn check_list(text: &[u8], lens: &[usize]) -> Writable
+#[tactic(auto, unfolding(crate::specs::Write::list_check))]
+pub fn check_list(text: &[u8], lens: &[usize]) -> Result<(), Refusal>
     ensures { paper_writable result ≡ list_check text.now lens.now }
 {
-    if MAX_SHORT < lens.len() {
-        return Writable::No(Refusal::NotWritable);
+    if MAX_SHORT < lens.len() || !lengths_fit(text.len(), lens) {
+        return Err(Refusal::NotWritable);
     }
-    if lengths_fit(text.len(), lens) {
-        if texts_fit(text, lens) {
-            Writable::Yes
-        } else {
-            Writable::No(Refusal::NotUtf8)
-        }
-    } else {
-        Writable::No(Refusal::NotWritable)
+    if !texts_fit(text, lens) {
+        return Err(Refusal::NotUtf8);
     }
+    Ok(())
 }
 
 // The strings, one behind the other, from at on.
@@ -128,15 +108,11 @@ fn put_strings(out: &mut [u8], at: usize, text: &[u8], lens: &[usize])
 {
     let mut to = at;
     let mut from: usize = 0;
-    let mut i: usize = 0;
-    while i < lens.len() {
-        let n = lens[i];
+    for &n in lens {
         let end = from + n;
         put_counted(out, to, 2, &text[from..end]);
-        let size = 2 + n;
-        to += size;
+        to += 2 + n;
         from = end;
-        i += 1;
     }
 }
 

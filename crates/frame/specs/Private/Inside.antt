@@ -1,20 +1,21 @@
 -- What only the contracts of functions inside this crate cite, and proofs. No public promise speaks of it: a reader of the promises need not believe it.
 -- What the types inside the crate mean. Assumes nothing.
 use Rattle.std.specs.Prelude.{ℕ, ◌+◌, cond, ◌≡◌, leb, length}
-use Rattle.refusal.specs.Refusal.{paper_refusal}
-use Rattle.types.specs.Answer.{Answer, got, refused}
-use Rattle.types.specs.Read.{Strings, strings}
-use Rattle.types.specs.Paper.{strings_of}
+use Rattle.std.specs.Prelude as std
+use Rattle.basis.specs.Front.{Front, refuses, whole}
+use Rattle.refusal.specs.Refusal.{Refusal, paper_refusal}
+use Rattle.refusal.specs.declared.Refusal as why
 use Rattle.types.specs.Write.{fine}
 use Rattle.frame.specs.Header.{Header, has_id, has_warnings}
 use Rattle.frame.specs.Write.{Content, tail_bytes, max_body, envelope_check}
-use Rattle.frame.specs.declared.read.Warnings.{Warnings}
+use Rattle.frame.specs.declared.Envelope.{Envelope}
+use Rattle.frame.specs.Envelope as paper
+use Rattle.frame.specs.Paper.{paper_envelope}
 
--- the warnings of an envelope whose id ends at a position
-abbrev pub paper_warnings : ℕ → Warnings → Answer Strings
-paper_warnings at Warnings.Absent = got (strings 0 at) at
-paper_warnings at (Warnings.List walk next) = got (strings_of walk) next
-paper_warnings at (Warnings.Refused e) = refused (paper_refusal e)
+-- an envelope whose bytes are there
+abbrev pub paper_whole : std.Result Envelope why.Refusal → Front Refusal paper.Envelope
+paper_whole (std.Ok e) = whole (paper_envelope e)
+paper_whole (std.Err e) = refuses (paper_refusal e)
 
 -- a length, or one more than the largest that is declared where it is over that: sums of it never get large
 unfoldable pub capped : ℕ → ℕ

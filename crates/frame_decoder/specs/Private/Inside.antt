@@ -11,13 +11,24 @@ use Rattle.frame_decoder.specs.declared.FrameDecoder as code-decoder
 use Rattle.frame_decoder.specs.declared.Answer as code-answer
 use Rattle.frame_decoder.specs.declared.Step.{Step}
 use Rattle.frame_decoder.specs.declared.settle.Due.{Due}
-use Rattle.frame_decoder.specs.declared.work.Turn.{Turn}
+use Rattle.std.specs.Prelude as std
+use Rattle.std.proofs.Common.{ControlFlow, Continue, Break}
+use Rattle.refusal.specs.declared.Refusal as why
+
+abbrev pub due_as : std.Option (std.Result code-answer.Answer why.Refusal) → code-decoder.FrameDecoder → settling.Due
+due_as std.None r = settling.waits (paper_reader r)
+due_as (std.Some answer) r = settling.due (paper_answer answer) (paper_reader r)
 
 abbrev pub paper_due : Due → settling.Due
-paper_due (Due.Answered answer r) = settling.due (paper_answer answer) (paper_reader r)
-paper_due (Due.Waits r) = settling.waits (paper_reader r)
+paper_due d = due_as d.answer d.reader
 
-abbrev pub step_of : code-decoder.FrameDecoder → code-answer.Answer → ℕ → Step
+abbrev pub waiting : code-decoder.FrameDecoder → Due
+waiting r = record { answer = std.None; reader = r }
+
+abbrev pub answering : code-answer.Answer → code-decoder.FrameDecoder → Due
+answering answer r = record { answer = std.Some (std.Ok answer); reader = r }
+
+abbrev pub step_of : code-decoder.FrameDecoder → std.Result code-answer.Answer why.Refusal → ℕ → Step
 step_of r answer taken = record { reader = r; heard = record { answer = answer; taken = taken } }
 
 -- ---- counts that lie in what they count, over a segment buffer of a bytes
@@ -58,7 +69,7 @@ pub record Onward (taken : ℕ) (r : Reader) (segment reassembly piece : List �
   pub good : Admitted x (length segment') (length reassembly')
 
 -- what a turn leaves: the call's outcome, or a call that goes on
-abbrev pub TurnIs : Turn → ℕ → Reader → List ℕ → List ℕ → List ℕ → List ℕ → List ℕ → Type 0
-TurnIs (Turn.Done s) taken r segment reassembly piece segment' reassembly' =
+abbrev pub TurnIs : ControlFlow Step (code-decoder.FrameDecoder × ℕ) → ℕ → Reader → List ℕ → List ℕ → List ℕ → List ℕ → List ℕ → Type 0
+TurnIs (Break s) taken r segment reassembly piece segment' reassembly' =
     paper_step s segment' reassembly' ≡ work taken r segment reassembly (drop taken piece)
-TurnIs (Turn.On x next) taken r segment reassembly piece segment' reassembly' = Onward taken r segment reassembly piece next (paper_reader x) segment' reassembly'
+TurnIs (Continue g) taken r segment reassembly piece segment' reassembly' = Onward taken r segment reassembly piece g.1 (paper_reader g.0) segment' reassembly'

@@ -18,4 +18,4 @@ returns c = let a = c.args in
     ∙ ap (put a.out.now 0)
     (c.put_number-2.ensures
     ∙ ap (λ (l : List ℕ). put l 5 (digits 4 a.n)) c.put_number.ensures
-    ∙ ap₂ (λ (f s : ℕ). f ∷ cleared_flags a.header.flags ∷ (digits 2 s ++ (a.header.opcode ∷ digits 4 a.n))) c.first_byte-first.ensures (let r : c.bits16-bits.result ≡ of_z w16 c.args.header.stream = c.bits16-bits.ensures ∙ ap (of_z w16) (to_z-of_z w16 c.args.header.stream (search rules)) in r))
+    ∙ ap₂ (λ (f s : ℕ). f ∷ cleared_flags a.header.flags ∷ (digits 2 s ++ (a.header.opcode ∷ digits 4 a.n))) c.first_byte.ensures (let r : c.bits16.result ≡ of_z w16 c.args.header.stream = c.bits16.ensures ∙ ap (of_z w16) (to_z-of_z w16 c.args.header.stream (search rules)) in r))

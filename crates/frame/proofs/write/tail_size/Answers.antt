@@ -3,19 +3,13 @@ use Prim.Native.Nat.{ℕ, ◌+◌}
 use mathlib.Core.Path.{ap, ap₂, ◌∙◌}
 use Rattle.frame.specs.Private.Inside.{capped, id_size, warnings_size}
 use Rattle.frame.specs.Paper.{paper_header}
-use Rattle.frame.proofs.Capped.{capped_bound, capped_plus}
+use Rattle.frame.proofs.Capped.{capped_plus}
 use Rattle.frame.proofs.write.tail_size.Goals as goal
-
-pub plus-with_id-requires : goal.plus-with_id-requires
-plus-with_id-requires c = capped_bound _ c.warnings_size-warnings.ensures
-
-pub plus-requires : goal.plus-requires
-plus-requires c = capped_bound _ c.plus-with_id.ensures
 
 pub returns : goal.returns
 returns c = let a = c.args in
     let w = warnings_size (paper_header a.header) a.text a.count in
     let i = id_size (paper_header a.header) a.id in
-    c.plus.ensures
-    ∙ ap (λ (k : ℕ). capped (k + a.body)) (c.plus-with_id.ensures ∙ ap₂ (λ (k j : ℕ). capped (k + j)) c.warnings_size-warnings.ensures c.id_size.ensures ∙ capped_plus w i)
+    c.plus-2.ensures
+    ∙ ap (λ (k : ℕ). capped (k + a.body)) (c.plus.ensures ∙ ap₂ (λ (k j : ℕ). capped (k + j)) c.warnings_size-warnings.ensures c.id_size.ensures ∙ capped_plus w i)
     ∙ capped_plus (w + i) a.body

@@ -4,22 +4,16 @@ use mathlib.Core.Path.{sym, ap, ◌∙◌}
 use mathlib.Core.Bool.{Bool, cond}
 use native.Mathlib.Omega.{arith}
 use Rattle.frame.specs.Private.Inside.{capped}
-use Rattle.frame.proofs.Capped.{capped_small, capped_bound, capped_plus}
+use Rattle.frame.proofs.Capped.{capped_small, capped_plus}
 use Rattle.frame.proofs.write.warnings_size.Goals as goal
-
-pub plus-twice-requires : goal.plus-twice-requires
-plus-twice-requires c = capped_bound _ c.plus-counts.ensures
-
-pub plus-requires : goal.plus-requires
-plus-requires c = capped_bound _ c.plus-twice.ensures
 
 pub returns-then-has_warnings : goal.returns-then-has_warnings
 returns-then-has_warnings c = let a = c.args in
-    c.plus.ensures
-    ∙ ap (λ (k : ℕ). capped (k + a.text)) (c.plus-twice.ensures ∙ ap (λ (k : ℕ). capped (k + a.count)) c.plus-counts.ensures ∙ capped_plus (2 + a.count) a.count)
+    c.plus-then-has_warnings-2.ensures
+    ∙ ap (λ (k : ℕ). capped (k + a.text)) (c.plus-then-has_warnings.ensures ∙ ap (λ (k : ℕ). capped (k + a.count)) c.plus.ensures ∙ capped_plus (2 + a.count) a.count)
     ∙ capped_plus (2 + a.count + a.count) a.text
     ∙ sym (ap (λ (t : Bool). capped (cond t (2 + a.count + a.count + a.text) 0)) (sym c.has_warnings.ensures ∙ c.if-has_warnings.true))
 
-pub returns : goal.returns
-returns c = let a = c.args in
+pub returns-else-has_warnings : goal.returns-else-has_warnings
+returns-else-has_warnings c = let a = c.args in
     sym (ap (λ (t : Bool). capped (cond t (2 + a.count + a.count + a.text) 0)) (sym c.has_warnings.ensures ∙ c.if-has_warnings.false) ∙ capped_small (omega arith))

@@ -1,16 +1,16 @@
 -- `frame::write::write_envelope` meets its contract: the checks in their order, and then the room. Assumes nothing.
 use Prim.Native.Nat.{ℕ, ◌≤◌}
-use mathlib.Core.Path.{◌≡◌, sym, ap, ◌∙◌, subst}
+use mathlib.Core.Path.{◌≡◌, sym, ◌∙◌, subst}
 use mathlib.Core.Bool.{true}
 use native.Mathlib.Omega.{arith}
 use lib.ListN.{length}
+use Rattle.std.proofs.lemmas.Result.{err_from_is_err_and}
 use Rattle.types.specs.Write.{fine}
-use Rattle.types.specs.Paper.{paper_writable}
 use Rattle.types.proofs.Put.{wrote_fine, wrote_against}
 use Rattle.frame.specs.Header.{Header}
-use Rattle.frame.specs.Write.{Content, content, head_fits, warnings_check, envelope_bytes, max_body}
+use Rattle.frame.specs.Write.{Content, head_fits, warnings_check, envelope_bytes, max_body}
 use Rattle.frame.specs.Private.Inside.{Planned, capped}
-use Rattle.frame.specs.Paper.{paper_header}
+use Rattle.frame.specs.Paper.{paper_header, paper_content}
 use Rattle.frame.proofs.Capped.{capped_within, capped_past}
 use Rattle.frame.proofs.Checked.{given_size, head_unfit, body_long, warnings_unfit, all_fit}
 use Rattle.frame.proofs.write.write_envelope.Goals as goal
@@ -22,28 +22,30 @@ planned h g e small head checked =
     let within = capped_within (given_size h g) e small in
     subst (λ (k : ℕ). Planned h g k) (sym within.1) (all_fit h g head within.0 checked)
 
+pub returns-then-not-head_fits : goal.returns-then-not-head_fits
+returns-then-not-head_fits c = wrote_against (head_unfit _ _ (sym c.head_fits.ensures ∙ c.if-not-head_fits.true))
+
+pub returns-then-tail-gt-MAX_BODY : goal.returns-then-tail-gt-MAX_BODY
+returns-then-tail-gt-MAX_BODY c =
+    let size = given_size (paper_header c.args.header) (paper_content c.args.content) in
+    wrote_against (body_long _ _ (sym c.head_fits.ensures ∙ c.if-not-head_fits.false) (capped_past size c.tail_size-tail.ensures (omega arith)))
+
+pub returns-in_err-check_warnings : goal.returns-in_err-check_warnings
+returns-in_err-check_warnings c =
+    let size = given_size (paper_header c.args.header) (paper_content c.args.content) in
+    let p = err_from_is_err_and c.from_residual.result c.from_residual.ensures.1 in
+    rw (p.1, p.2)
+    (wrote_against (warnings_unfit _ _ (sym c.head_fits.ensures ∙ c.if-not-head_fits.false) (capped_within size c.tail_size-tail.ensures (omega arith)).0 (sym c.in_err-check_warnings.ensures)))
+
 pub put_envelope-requires : goal.put_envelope-requires
 put_envelope-requires c =
-    planned (paper_header c.args.header) (content c.args.id.now c.args.text.now c.args.lens.now c.args.body.now)
-    c.tail_size-tail.ensures (omega arith) (sym c.head_fits.ensures ∙ c.if-head_fits.true) (sym c.check_warnings.ensures ∙ ap paper_writable c.in-Yes.is)
-
-pub returns-in-Yes : goal.returns-in-Yes
-returns-in-Yes c =
-    let h = paper_header c.args.header in
-    let g = content c.args.id.now c.args.text.now c.args.lens.now c.args.body.now in
-    wrote_fine {bs = envelope_bytes h g}
-    (planned h g c.tail_size-tail.ensures (omega arith) (sym c.head_fits.ensures ∙ c.if-head_fits.true) (sym c.check_warnings.ensures ∙ ap paper_writable c.in-Yes.is)).check
-    c.put_envelope.ensures
-
-pub returns-in-No : goal.returns-in-No
-returns-in-No c =
-    let size = given_size (paper_header c.args.header) (content c.args.id.now c.args.text.now c.args.lens.now c.args.body.now) in
-    wrote_against (warnings_unfit _ _ (sym c.head_fits.ensures ∙ c.if-head_fits.true) (capped_within size c.tail_size-tail.ensures (omega arith)).0 (sym c.check_warnings.ensures ∙ ap paper_writable c.in-No.is))
-
-pub returns-then-head_fits : goal.returns-then-head_fits
-returns-then-head_fits c =
-    let size = given_size (paper_header c.args.header) (content c.args.id.now c.args.text.now c.args.lens.now c.args.body.now) in
-    wrote_against (body_long _ _ (sym c.head_fits.ensures ∙ c.if-head_fits.true) (capped_past size c.tail_size-tail.ensures (omega arith)))
+    planned (paper_header c.args.header) (paper_content c.args.content)
+    c.tail_size-tail.ensures (omega arith) (sym c.head_fits.ensures ∙ c.if-not-head_fits.false) (sym c.in_ok-check_warnings.ensures)
 
 pub returns : goal.returns
-returns c = wrote_against (head_unfit _ _ (sym c.head_fits.ensures ∙ c.if-head_fits.false))
+returns c =
+    let h = paper_header c.args.header in
+    let g = paper_content c.args.content in
+    wrote_fine {bs = envelope_bytes h g}
+    (planned h g c.tail_size-tail.ensures (omega arith) (sym c.head_fits.ensures ∙ c.if-not-head_fits.false) (sym c.in_ok-check_warnings.ensures)).check
+    c.put_envelope.ensures

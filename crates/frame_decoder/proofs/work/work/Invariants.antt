@@ -7,13 +7,13 @@ use Rattle.frame_decoder.specs.Paper.{paper_reader}
 use Rattle.frame_decoder.specs.Private.Inside.{Admitted}
 use Rattle.frame_decoder.proofs.work.work.Given as goal
 
-abbrev pub invariant-loop-s : goal.invariant-loop-s
-invariant-loop-s l =
+abbrev pub invariant-loop-step : goal.invariant-loop-step
+invariant-loop-step l =
     (l.taken ≤ length l.piece)
     × (length l.segment ≡ length l.initial.segment)
     × (length l.reassembly ≡ length l.initial.reassembly)
     × Admitted (paper_reader l.m) (length l.segment) (length l.reassembly)
     × (work l.taken (paper_reader l.m) l.segment l.reassembly (drop l.taken l.piece) ≡ work 0 (paper_reader l.initial.m) l.initial.segment l.initial.reassembly l.piece)
 
-abbrev pub decreases-loop-s : goal.decreases-loop-s
-decreases-loop-s l = length l.piece - l.taken
+abbrev pub decreases-loop-step : goal.decreases-loop-step
+decreases-loop-step l = length l.piece - l.taken

@@ -6,8 +6,5 @@ use Rattle.types.specs.Number.{digits}
 use Rattle.types.specs.Write.{put}
 use Rattle.types.proofs.inner.put_number.Given as goal
 
-abbrev pub invariant-loop-left : goal.invariant-loop-left
-invariant-loop-left l = (l.left ≤ l.n) × (length l.out ≡ length l.initial.out) × (put l.out l.at (digits l.left l.rest) ≡ put l.initial.out l.at (digits l.n l.x))
-
-abbrev pub decreases-loop-left : goal.decreases-loop-left
-decreases-loop-left l = l.left
+abbrev pub invariant-loop-i : goal.invariant-loop-i
+invariant-loop-i l = (l.i ≤ l.n) × (length l.out ≡ length l.initial.out) × (put l.out l.at (digits l.i l.rest) ≡ put l.initial.out l.at (digits l.n l.x))

@@ -6,14 +6,10 @@ use lib.ListN.{length, drop}
 use Rattle.types.specs.Write.{put, lengths_fit, cut_by, strings_bytes}
 use Rattle.types.proofs.inner.put_strings.Given as goal
 
-abbrev pub invariant-loop-i : goal.invariant-loop-i
-invariant-loop-i l =
-    (l.i ≤ length l.lens)
-    × (l.from ≤ length l.text)
+abbrev pub invariant-loop-n : goal.invariant-loop-n
+invariant-loop-n l =
+    (l.from ≤ length l.text)
     × (length l.out ≡ length l.initial.out)
-    × (lengths_fit (length l.text - l.from) (drop l.i l.lens) ≡ true)
-    × (l.to + length (strings_bytes (cut_by (drop l.from l.text) (drop l.i l.lens))) ≤ length l.out)
-    × (put l.out l.to (strings_bytes (cut_by (drop l.from l.text) (drop l.i l.lens))) ≡ put l.initial.out l.at (strings_bytes (cut_by l.text l.lens)))
-
-abbrev pub decreases-loop-i : goal.decreases-loop-i
-decreases-loop-i l = length l.lens - l.i
+    × (lengths_fit (length l.text - l.from) (drop l.n-index l.lens) ≡ true)
+    × (l.to + length (strings_bytes (cut_by (drop l.from l.text) (drop l.n-index l.lens))) ≤ length l.out)
+    × (put l.out l.to (strings_bytes (cut_by (drop l.from l.text) (drop l.n-index l.lens))) ≡ put l.initial.out l.at (strings_bytes (cut_by l.text l.lens)))

@@ -1,27 +1,17 @@
 -- `types::read::read_strings` meets its contract: what is left to read ends as the whole does. Assumes nothing.
-use mathlib.Core.Path.{refl, sym, ap, ◌∙◌}
+use mathlib.Core.Path.{sym, ◌∙◌}
 use native.Mathlib.Omega.{arith}
-use Rattle.types.specs.Paper.{paper_part}
+use native.Mathlib.Nat.{sub-add-eq}
+use Rattle.std.proofs.lemmas.Result.{err_from_is_err_and}
 use Rattle.types.proofs.Reading.{strings_go, strings_stop, strings_none}
 use Rattle.types.proofs.read.read_strings.Goals as goal
 
-pub loop-left-init : goal.loop-left-init
-loop-left-init c = refl
+pub returns-in_err-end : goal.returns-in_err-end
+returns-in_err-end c = let p = err_from_is_err_and c.from_residual.result c.from_residual.ensures.1 in
+    rw (p.1, p.2) (sym (c.loop.invariant ∙ strings_stop _ _ _ (omega arith) (sym c.in_err-end.ensures)))
 
-pub returns-in-Refused : goal.returns-in-Refused
-returns-in-Refused c = sym
-    (c.loop-left.invariant
-    ∙ strings_stop _ _ _ c.loop-left-test.true (sym c.read_string.ensures ∙ ap paper_part c.in-Refused.is))
-
-pub overflow_sub-left : goal.overflow_sub-left
-overflow_sub-left c = omega arith
-
-pub loop-left-smaller : goal.loop-left-smaller
-loop-left-smaller c = omega arith
-
-pub loop-left-preserved : goal.loop-left-preserved
-loop-left-preserved c = c.loop-left.invariant
-    ∙ strings_go _ _ _ c.loop-left-test.true (sym c.read_string.ensures ∙ ap paper_part c.in-Part.is)
+pub loop-preserved : goal.loop-preserved
+loop-preserved c = rw sub-add-eq (c.loop.invariant ∙ strings_go _ _ _ (omega arith) (sym c.in_ok-end.ensures))
 
 pub returns : goal.returns
-returns c = sym (c.loop-left.invariant ∙ strings_none _ _ _ c.loop-left-test.false)
+returns c = sym (c.loop.invariant ∙ strings_none _ _ _ (omega arith))
