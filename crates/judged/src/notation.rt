@@ -4,7 +4,8 @@ use refusal::Refusal;
 use types::number::{bits32, bits64};
 use types::{Place, Walk, Walked, read};
 
-// A notation that was read: the words of its value, as it is shown, and where it ends.
+// Word 0: 0 a refusal (word 1 its number), 1 a value (word 1; signed ones as their bits), 2 a part (words 1 and 2: start and length), 3 null, 4 a
+// list (words 1 and 2: how many strings and where the first begins). Word 3 is where the notation ends.
 fn put_read<T, F: FnOnce(T) -> [usize; 3]>(
     said: &mut [usize],
     answer: Result<(T, usize), Refusal>,
@@ -19,8 +20,9 @@ fn put_read<T, F: FnOnce(T) -> [usize; 3]>(
     put_answer(said, words);
 }
 
-fn number(x: usize) -> [usize; 3] {
-    [1, x, 0]
+fn number<T: Into<u64>>(x: T) -> [usize; 3] {
+    let bits: u64 = x.into();
+    [1, bits as usize, 0]
 }
 
 fn part(place: Place) -> [usize; 3] {
@@ -36,23 +38,13 @@ fn list(walk: Walk) -> [usize; 3] {
 }
 
 // The notations in this order: byte, short, int, long, uuid, short bytes, string, long string, bytes, string list.
-// Word 0: 0 a refusal (word 1 its number), 1 a value (word 1; signed ones as their bits), 2 a part (words 1 and 2: start and length), 3 null, 4 a
-// list (words 1 and 2: how many strings and where the first begins). Word 3 is where the notation ends.
 #[unsafe(no_mangle)]
 pub extern "C" fn judged_notation(kind: usize, bytes: &[u8], at: usize, said: &mut [usize]) {
     match kind {
-        0 => put_read(said, read::read_byte(bytes, at), |x| number(x as usize)),
-        1 => put_read(said, read::read_short(bytes, at), |x| number(x as usize)),
-        2 => put_read(
-            said,
-            read::read_int(bytes, at),
-            |x| number(bits32(x) as usize),
-        ),
-        3 => put_read(
-            said,
-            read::read_long(bytes, at),
-            |x| number(bits64(x) as usize),
-        ),
+        0 => put_read(said, read::read_byte(bytes, at), number),
+        1 => put_read(said, read::read_short(bytes, at), number),
+        2 => put_read(said, read::read_int(bytes, at), |x| number(bits32(x))),
+        3 => put_read(said, read::read_long(bytes, at), |x| number(bits64(x))),
         4 => put_read(said, read::read_uuid(bytes, at), part),
         5 => put_read(said, read::read_short_bytes(bytes, at), part),
         6 => put_read(said, read::read_string(bytes, at), part),

@@ -139,18 +139,7 @@ fn phase(name: usize, a: usize, b: usize, c: usize) -> Option<Phase> {
 // State: form, the two lengths, pending, then the phase. Fewer than eight words are no state, nor are those in which one stands for no form, for no phase,
 // for no refusal, or neither for yes nor for no.
 fn reader(state: &[usize]) -> Option<FrameDecoder> {
-    let &[
-        long,
-        segment_len,
-        reassembly_len,
-        pending,
-        name,
-        a,
-        b,
-        c,
-        ..
-    ] = state
-    else {
+    let &[long, segment, reassembly, pending, name, a, b, c, ..] = state else {
         return None;
     };
     if long > 1 {
@@ -158,8 +147,8 @@ fn reader(state: &[usize]) -> Option<FrameDecoder> {
     }
     Some(FrameDecoder {
         form: form(long),
-        segment_len,
-        reassembly_len,
+        segment_len: segment,
+        reassembly_len: reassembly,
         pending,
         phase: phase(name, a, b, c)?,
     })
@@ -188,8 +177,8 @@ fn put_state(state: &mut [usize], m: FrameDecoder) {
     put(state, 4, &of_phase(m.phase));
 }
 
-// Word 0: 0 more, 1 an envelope (words 1 to 3: buffer, start, whole length; then the envelope from word 4 on), 2 a refusal, 3 leftover; of the last two word 1 is
-// the number.
+// Word 0: 0 more, 1 an envelope (words 1 to 3: buffer, start, whole length; from word 4 on the envelope), 2 a refusal, 3 leftover; of the last two
+// word 1 is the number.
 fn put_heard(said: &mut [usize], answer: Result<Answer, Refusal>) {
     match answer {
         Ok(Answer::More) => put(said, 0, &[0]),
