@@ -1,15 +1,29 @@
 // Envelopes and streams.
-use crate::words;
-use frame::{Direction, Envelope, Header, Reading, read};
+use crate::words::{copy, form, get, of_form, put, put_reading, put_refused};
+use frame::{Direction, Envelope, Header, read};
 use frame_decoder::{Answer, Buffer, FrameDecoder, Phase, Step};
-use refusal::{Numbered, Refusal};
+use refusal::Refusal;
 use types::number::{bits16, signed16};
 use types::{Place, Walk};
+
+fn direction(word: usize) -> Direction {
+    match word {
+        0 => Direction::Request,
+        _ => Direction::Response,
+    }
+}
 
 fn of_direction(direction: Direction) -> usize {
     match direction {
         Direction::Request => 0,
         Direction::Response => 1,
+    }
+}
+
+fn buffer(word: usize) -> Buffer {
+    match word {
+        0 => Buffer::Segment,
+        _ => Buffer::Reassembly,
     }
 }
 
@@ -20,82 +34,55 @@ fn of_buffer(buffer: Buffer) -> usize {
     }
 }
 
-// Words 5 to 9: version, direction, flags, stream (16 bits), opcode.
-fn put_header(said: &mut [usize], header: Header) {
-    let direction = header.direction;
-    let number = bits16(header.stream) as usize;
-    let version = header.version as usize;
-    let flags = header.flags as usize;
-    words::put4(said, 5, version, of_direction(direction), flags, number);
-    words::put(said, 9, header.opcode as usize);
-}
-
-// Words 10 to 14: whether there is an id, the warnings' number and place, the body's place and length.
-fn put_body(said: &mut [usize], e: Envelope) {
-    let left = e.warnings.left as usize;
-    words::put4(
-        said,
-        10,
+// Whole length; version, direction, flags, stream (16 bits), opcode; whether there is an id, the warnings' number and place, the body's place and length.
+fn of_envelope(e: Envelope) -> [usize; 11] {
+    let header = e.header;
+    [
+        e.size,
+        header.version as usize,
+        of_direction(header.direction),
+        header.flags as usize,
+        bits16(header.stream) as usize,
+        header.opcode as usize,
         e.traced as usize,
-        left,
+        e.warnings.left as usize,
         e.warnings.at,
         e.body.start,
-    );
-    words::put(said, 14, e.body.len);
+        e.body.len,
+    ]
 }
 
-// Word 4 is the whole length.
-fn put_envelope(said: &mut [usize], e: Envelope) {
-    words::put(said, 4, e.size);
-    put_header(said, e.header);
-    put_body(said, e);
-}
-
-// Word 0: 0 incomplete, 1 an envelope, 2 a refusal, whose number is word 1.
+// An envelope stands from word 4 on.
 #[unsafe(no_mangle)]
 pub extern "C" fn judged_parse(bytes: &[u8], said: &mut [usize]) {
-    match read::read_envelope(bytes) {
-        Reading::Incomplete => words::put(said, 0, 0),
-        Reading::Whole(e) => {
-            words::put(said, 0, 1);
-            put_envelope(said, e);
-        }
-        Reading::Refused(why) => words::put_refused(said, 2, why),
-    }
-}
-
-fn direction(word: usize) -> Direction {
-    match word {
-        0 => Direction::Request,
-        _ => Direction::Response,
-    }
+    let read = read::read_envelope(bytes);
+    put_reading(said, 4, read.map(|e| e.map(of_envelope)));
 }
 
 // Version, direction, flags, stream (16 bits), opcode.
 pub fn header(fields: &[usize]) -> Header {
     Header {
-        version: (words::get(fields, 0) % 0x100) as u8,
-        direction: direction(words::get(fields, 1)),
-        flags: (words::get(fields, 2) % 0x100) as u8,
-        stream: signed16((words::get(fields, 3) % 0x1_0000) as u16),
-        opcode: (words::get(fields, 4) % 0x100) as u8,
+        version: (get(fields, 0) % 0x100) as u8,
+        direction: direction(get(fields, 1)),
+        flags: (get(fields, 2) % 0x100) as u8,
+        stream: signed16((get(fields, 3) % 0x1_0000) as u16),
+        opcode: (get(fields, 4) % 0x100) as u8,
     }
 }
 
 // An envelope of which only the parts count, from words as they are put above.
 fn envelope(said: &[usize]) -> Envelope {
-    let fields = [0usize; 5];
     Envelope {
-        size: words::get(said, 4),
-        header: header(&fields),
-        traced: words::get(said, 10) == 1,
+        size: get(said, 4),
+        header: header(&[]),
+        traced: get(said, 10) == 1,
         warnings: Walk {
-            left: (words::get(said, 11) % 0x1_0000) as u16,
-            at: words::get(said, 12),
+            left: (get(said, 11) % 0x1_0000) as u16,
+            at: get(said, 12),
         },
         body: Place {
-            start: words::get(said, 13),
-            len: words::get(said, 14),
+            start: get(said, 13),
+            len: get(said, 14),
         },
     }
 }
@@ -103,19 +90,12 @@ fn envelope(said: &[usize]) -> Envelope {
 // These copy a part, and answer how long it is.
 #[unsafe(no_mangle)]
 pub extern "C" fn judged_body(bytes: &[u8], said: &[usize], out: &mut [u8]) -> usize {
-    words::copy(out, read::body(bytes, envelope(said)))
+    copy(out, read::body(bytes, envelope(said)))
 }
 
 #[unsafe(no_mangle)]
 pub extern "C" fn judged_tracing_id(bytes: &[u8], said: &[usize], out: &mut [u8]) -> usize {
-    words::copy(out, read::tracing_id(bytes, envelope(said)))
-}
-
-fn buffer(word: usize) -> Buffer {
-    match word {
-        0 => Buffer::Segment,
-        _ => Buffer::Reassembly,
-    }
+    copy(out, read::tracing_id(bytes, envelope(said)))
 }
 
 #[unsafe(no_mangle)]
@@ -129,121 +109,98 @@ pub extern "C" fn judged_stream_part<'a>(
 ) -> usize {
     let place = Place { start, len };
     let part = frame_decoder::part(buffer(which), segment, reassembly, place);
-    words::copy(out, part)
+    copy(out, part)
 }
 
-// State: form, the two lengths, pending, then the phase: its name and up to three numbers. Fewer than eight words are no state, nor are those in which
-// one stands for no form, for no phase, for no refusal, or neither for yes nor for no.
-#[derive(Clone, Copy)]
-enum Stated {
-    Reader(FrameDecoder),
-    Nothing,
+fn flag(word: usize) -> Option<bool> {
+    match word {
+        0 => Some(false),
+        1 => Some(true),
+        _ => None,
+    }
 }
 
-fn in_phase(state: &[usize], phase: Phase) -> Stated {
-    Stated::Reader(FrameDecoder {
-        form: words::form(words::get(state, 0)),
-        segment_len: words::get(state, 1),
-        reassembly_len: words::get(state, 2),
-        pending: words::get(state, 3),
-        phase,
+// A phase by its name, and up to three numbers.
+fn phase(name: usize, a: usize, b: usize, c: usize) -> Option<Phase> {
+    match name {
+        0 => Some(Phase::Header { filled: a }),
+        1 => Some(Phase::Rest {
+            filled: a,
+            len: b,
+            self_contained: flag(c)?,
+        }),
+        2 => Some(Phase::InSegment { len: a, at: b }),
+        3 => Some(Phase::InReassembly { at: a }),
+        4 => Some(Phase::Stopped(refusal::of_number(a)?)),
+        _ => None,
+    }
+}
+
+// State: form, the two lengths, pending, then the phase. Fewer than eight words are no state, nor are those in which one stands for no form, for no phase,
+// for no refusal, or neither for yes nor for no.
+fn reader(state: &[usize]) -> Option<FrameDecoder> {
+    let &[long, segment, reassembly, pending, name, a, b, c, ..] = state else {
+        return None;
+    };
+    if long > 1 {
+        return None;
+    }
+    Some(FrameDecoder {
+        form: form(long),
+        segment_len: segment,
+        reassembly_len: reassembly,
+        pending,
+        phase: phase(name, a, b, c)?,
     })
 }
 
-fn rest(state: &[usize], filled: usize, len: usize, is: usize) -> Stated {
-    if is > 1 {
-        return Stated::Nothing;
-    }
-    let self_contained = is == 1;
-    let phase = Phase::Rest {
-        filled,
-        len,
-        self_contained,
-    };
-    in_phase(state, phase)
-}
-
-fn stopped(state: &[usize], number: usize) -> Stated {
-    match refusal::of_number(number) {
-        Numbered::Stands(why) => in_phase(state, Phase::Stopped(why)),
-        Numbered::Nothing => Stated::Nothing,
-    }
-}
-
-fn reader(state: &[usize]) -> Stated {
-    if state.len() < 8 || words::get(state, 0) > 1 {
-        return Stated::Nothing;
-    }
-    let a = words::get(state, 5);
-    let b = words::get(state, 6);
-    match words::get(state, 4) {
-        0 => in_phase(state, Phase::Header { filled: a }),
-        1 => rest(state, a, b, words::get(state, 7)),
-        2 => in_phase(state, Phase::InSegment { len: a, at: b }),
-        3 => in_phase(state, Phase::InReassembly { at: a }),
-        4 => stopped(state, a),
-        _ => Stated::Nothing,
-    }
-}
-
-fn put_phase(state: &mut [usize], phase: Phase) {
+fn of_phase(phase: Phase) -> [usize; 4] {
     match phase {
-        Phase::Header { filled } => words::put4(state, 4, 0, filled, 0, 0),
+        Phase::Header { filled } => [0, filled, 0, 0],
         Phase::Rest {
             filled,
             len,
             self_contained,
-        } => words::put4(state, 4, 1, filled, len, self_contained as usize),
-        Phase::InSegment { len, at } => words::put4(state, 4, 2, len, at, 0),
-        Phase::InReassembly { at } => words::put4(state, 4, 3, at, 0, 0),
-        Phase::Stopped(why) => words::put4(state, 4, 4, why.number() as usize, 0, 0),
+        } => [1, filled, len, self_contained as usize],
+        Phase::InSegment { len, at } => [2, len, at, 0],
+        Phase::InReassembly { at } => [3, at, 0, 0],
+        Phase::Stopped(why) => [4, why.number() as usize, 0, 0],
     }
 }
 
-fn put_state(state: &mut [usize], reader: FrameDecoder) {
-    let form = reader.form;
-    let phase = reader.phase;
-    words::put4(
+fn put_state(state: &mut [usize], m: FrameDecoder) {
+    put(
         state,
         0,
-        words::of_form(form),
-        reader.segment_len,
-        reader.reassembly_len,
-        reader.pending,
+        &[of_form(m.form), m.segment_len, m.reassembly_len, m.pending],
     );
-    put_phase(state, phase);
+    put(state, 4, &of_phase(m.phase));
 }
 
-// Word 0: 0 more, 1 an envelope (words 1 to 3: buffer, start, whole length; then its reading), 2 a refusal, 3 leftover; of the last two word 1 is
-// the number.
-fn put_answer(said: &mut [usize], answer: Answer) {
+// Word 0: 0 more, 1 an envelope (words 1 to 3: buffer, start, whole length; from word 4 on the envelope), 2 a refusal, 3 leftover; of the last two
+// word 1 is the number.
+fn put_heard(said: &mut [usize], answer: Result<Answer, Refusal>) {
     match answer {
-        Answer::More => words::put(said, 0, 0),
-        Answer::Envelope(buffer, place, e) => {
-            words::put4(said, 0, 1, of_buffer(buffer), place.start, place.len);
-            put_envelope(said, e);
+        Ok(Answer::More) => put(said, 0, &[0]),
+        Ok(Answer::Envelope(buffer, place, e)) => {
+            put(said, 0, &[1, of_buffer(buffer), place.start, place.len]);
+            put(said, 4, &of_envelope(e));
         }
-        Answer::Refused(why) => words::put_refused(said, 2, why),
-        Answer::Leftover(n) => words::put4(said, 0, 3, n, 0, 0),
+        Ok(Answer::Leftover(n)) => put(said, 0, &[3, n, 0, 0]),
+        Err(why) => put_refused(said, 2, why),
     }
 }
 
 // Words that are no state hold nothing.
 #[unsafe(no_mangle)]
 pub extern "C" fn judged_held(state: &[usize]) -> usize {
-    match reader(state) {
-        Stated::Reader(reader) => reader.held(),
-        Stated::Nothing => 0,
-    }
+    reader(state).map_or(0, FrameDecoder::held)
 }
 
 fn put_step(state: &mut [usize], said: &mut [usize], step: Step) -> usize {
-    let next = step.reader;
-    put_state(state, next);
-    let heard = step.heard;
-    let answer = heard.answer;
-    put_answer(said, answer);
-    heard.taken
+    put_state(state, step.reader);
+    put_heard(said, step.heard.answer);
+    step.heard.taken
 }
 
 // One call. The answer is the number of bytes taken. Words that are no state are answered by refusal 1 and stay.
@@ -256,9 +213,9 @@ pub extern "C" fn judged_read(
     said: &mut [usize],
 ) -> usize {
     match reader(state) {
-        Stated::Reader(reader) => put_step(state, said, reader.read(segment, reassembly, piece)),
-        Stated::Nothing => {
-            words::put_refused(said, 2, Refusal::Inadmissible);
+        Some(reader) => put_step(state, said, reader.read(segment, reassembly, piece)),
+        None => {
+            put_refused(said, 2, Refusal::Inadmissible);
             0
         }
     }

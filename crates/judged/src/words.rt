@@ -3,48 +3,53 @@ use refusal::Refusal;
 use segment::Form;
 
 pub fn get(words: &[usize], k: usize) -> usize {
-    if k < words.len() {
-        return words[k];
-    }
-    0
-}
-
-pub fn put(words: &mut [usize], k: usize, x: usize) {
-    if k < words.len() {
-        words[k] = x;
-    }
-}
-
-// Four words from a place on.
-pub fn put4(words: &mut [usize], k: usize, a: usize, b: usize, c: usize, d: usize) {
-    if k < usize::MAX - 3 {
-        put(words, k, a);
-        put(words, k + 1, b);
-        put(words, k + 2, c);
-        put(words, k + 3, d);
-    }
-}
-
-fn put_byte(out: &mut [u8], k: usize, b: u8) {
-    if k < out.len() {
-        out[k] = b;
-    }
+    words.get(k).copied().unwrap_or(0)
 }
 
 // Copies what fits, and answers how much there was.
-pub fn copy(out: &mut [u8], bytes: &[u8]) -> usize {
-    let mut i: usize = 0;
-    while i < bytes.len() {
-        put_byte(out, i, bytes[i]);
-        i += 1;
+pub fn copy<T: Copy>(out: &mut [T], from: &[T]) -> usize {
+    let n = out.len().min(from.len());
+    out[..n].copy_from_slice(&from[..n]);
+    from.len()
+}
+
+// Words from a place on.
+pub fn put(words: &mut [usize], k: usize, values: &[usize]) {
+    if let Some(room) = words.get_mut(k..) {
+        copy(room, values);
     }
-    i
 }
 
 // A refusal: the word that names it as one, and its number.
 pub fn put_refused(said: &mut [usize], name: usize, why: Refusal) {
-    put4(said, 0, name, why.number() as usize, 0, 0);
+    put(said, 0, &[name, why.number() as usize, 0, 0]);
 }
+
+// Four words of an answer, or a refusal, which 0 names.
+pub fn put_answer(said: &mut [usize], answer: Result<[usize; 4], Refusal>) {
+    match answer {
+        Ok(words) => put(said, 0, &words),
+        Err(why) => put_refused(said, 0, why),
+    }
+}
+
+// Word 0: 0 incomplete, 1 a value, whose words stand from a place on, 2 a refusal, whose number is word 1.
+pub fn put_reading<const N: usize>(
+    said: &mut [usize],
+    k: usize,
+    answer: Result<Option<[usize; N]>, Refusal>,
+) {
+    match answer {
+        Ok(None) => put(said, 0, &[0]),
+        Ok(Some(words)) => {
+            put(said, 0, &[1]);
+            put(said, k, &words);
+        }
+        Err(why) => put_refused(said, 2, why),
+    }
+}
+
+// The words for enums are what the C side is told, and so are written out here and not taken from the order in which the enums' cases stand.
 
 // 1 is the long form, all else the short one.
 pub fn form(word: usize) -> Form {

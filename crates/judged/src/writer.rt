@@ -1,20 +1,20 @@
 // Notations, envelopes and segments written.
-use crate::{reader, words};
+use crate::reader;
+use crate::words::{copy, form, get, of_form, put, put_answer, put_reading};
+use frame::Content;
 use frame::write::write_envelope;
-use frame_encoder::{Encoded, FrameEncoder, Step};
-use segment::{Header, ReadHeader};
+use frame_encoder::{FrameEncoder, Step};
+use refusal::Refusal;
+use segment::Header;
 use types::number::{signed32, signed64};
-use types::{Written, write};
+use types::write;
 
 // Word 0: 0 a refusal (word 1 its number), 1 where the bytes written end (word 1).
-fn put_written(said: &mut [usize], answer: Written) {
-    match answer {
-        Written::Next(next) => words::put4(said, 0, 1, next, 0, 0),
-        Written::Refused(why) => words::put_refused(said, 0, why),
-    }
+fn put_written(said: &mut [usize], answer: Result<usize, Refusal>) {
+    put_answer(said, answer.map(|next| [1, next, 0, 0]));
 }
 
-fn written_number(kind: usize, out: &mut [u8], at: usize, bits: u64) -> Written {
+fn written_number(kind: usize, out: &mut [u8], at: usize, bits: u64) -> Result<usize, Refusal> {
     match kind {
         0 => write::write_byte(out, at, (bits % 0x100) as u8),
         1 => write::write_short(out, at, (bits % 0x1_0000) as u16),
@@ -36,13 +36,13 @@ pub extern "C" fn judged_write_number(
 }
 
 // Of bytes that are not 16, which no host asks for, the first 16, with zeros for those that are not there.
-fn written_uuid(out: &mut [u8], at: usize, bytes: &[u8]) -> Written {
+fn written_uuid(out: &mut [u8], at: usize, bytes: &[u8]) -> Result<usize, Refusal> {
     let mut id: [u8; 16] = [0; 16];
-    words::copy(&mut id, bytes);
+    copy(&mut id, bytes);
     write::write_uuid(out, at, id)
 }
 
-fn written_bytes(kind: usize, out: &mut [u8], at: usize, bytes: &[u8]) -> Written {
+fn written_bytes(kind: usize, out: &mut [u8], at: usize, bytes: &[u8]) -> Result<usize, Refusal> {
     match kind {
         4 => written_uuid(out, at, bytes),
         5 => write::write_short_bytes(out, at, bytes),
@@ -87,39 +87,34 @@ pub extern "C" fn judged_write_envelope(
     body: &[u8],
     said: &mut [usize],
 ) {
-    put_written(
-        said,
-        write_envelope(out, reader::header(fields), id, text, lens, body),
-    );
+    let content = Content {
+        id,
+        text,
+        lens,
+        body,
+    };
+    put_written(said, write_envelope(out, reader::header(fields), content));
 }
 
 // Form, payload so far.
 fn encoder(state: &[usize]) -> FrameEncoder {
     FrameEncoder {
-        form: words::form(words::get(state, 0)),
-        payload: words::get(state, 1),
+        form: form(get(state, 0)),
+        payload: get(state, 1),
     }
 }
 
 fn put_encoder(state: &mut [usize], next: FrameEncoder) {
-    let form = next.form;
-    words::put(state, 0, words::of_form(form));
-    words::put(state, 1, next.payload);
+    put(state, 0, &[of_form(next.form), next.payload]);
 }
 
 // Word 0: 0 a refusal (word 1 its number), 1 so many bytes written (word 1) and so many taken of what was given (word 2).
-fn put_encoded(said: &mut [usize], answer: Encoded) {
-    match answer {
-        Encoded::Wrote(size, taken) => words::put4(said, 0, 1, size, taken, 0),
-        Encoded::Refused(why) => words::put_refused(said, 0, why),
-    }
-}
-
 fn put_step(state: &mut [usize], said: &mut [usize], step: Step) {
-    let next = step.encoder;
-    let answer = step.answer;
-    put_encoder(state, next);
-    put_encoded(said, answer);
+    put_encoder(state, step.encoder);
+    put_answer(
+        said,
+        step.answer.map(|wrote| [1, wrote.size, wrote.taken, 0]),
+    );
 }
 
 #[unsafe(no_mangle)]
@@ -166,25 +161,15 @@ pub extern "C" fn judged_piece(
     put_step(state, said, step);
 }
 
-fn put_header(said: &mut [usize], header: Header) {
+fn of_header(header: Header) -> [usize; 3] {
     let payload = header.payload as usize;
     let uncompressed = header.uncompressed as usize;
-    words::put4(
-        said,
-        0,
-        1,
-        payload,
-        uncompressed,
-        header.self_contained as usize,
-    );
+    [payload, uncompressed, header.self_contained as usize]
 }
 
-// Word 0: 0 incomplete, 1 a header (words 1 to 3: payload's length, length before compression, self-contained), 2 a refusal (word 1 its number).
+// Words 1 to 3 of a header: payload's length, length before compression, self-contained.
 #[unsafe(no_mangle)]
 pub extern "C" fn judged_header(long: usize, bytes: &[u8], said: &mut [usize]) {
-    match segment::read_header(words::form(long), bytes) {
-        ReadHeader::Incomplete => words::put(said, 0, 0),
-        ReadHeader::Whole(header) => put_header(said, header),
-        ReadHeader::Refused(why) => words::put_refused(said, 2, why),
-    }
+    let read = segment::read_header(form(long), bytes);
+    put_reading(said, 1, read.map(|header| header.map(of_header)));
 }

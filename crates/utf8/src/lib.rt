@@ -26,7 +26,7 @@ fn first(b: u8) -> Waiting
     ensures { want_of result ≡ begin rows b }
 {
     match b {
-        _ if b.is_ascii() => Waiting::First,
+        _ if b <= 0x7f => Waiting::First,
         0xc2..=0xdf => tail(0x80, 0xbf, 0),
         0xe0 => tail(0xa0, 0xbf, 1),
         0xe1..=0xec => tail(0x80, 0xbf, 1),
