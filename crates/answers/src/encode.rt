@@ -25,10 +25,7 @@ fn header(line: &[u8]) -> Option<Header> {
     })
 }
 
-pub fn answer(page: &mut Page, name: &[u8], line: &[u8], body: &[u8]) -> Option<fmt::Result> {
-    if name != b"encode".as_slice() {
-        return None;
-    }
+pub fn answer(page: &mut Page, line: &[u8], body: &[u8]) -> Option<fmt::Result> {
     let header = header(line)?;
     let mut id: [u8; MOST] = filled(0);
     let mut text: [u8; MOST] = filled(0);

@@ -5,6 +5,7 @@ use cases::room::filled;
 use cases::say::Page;
 use cases::tell::{Failure, tell};
 use cases::{input, words};
+use segment::Form;
 use std::fmt;
 use std::fmt::Write;
 use std::io::{Stdin, Stdout};
@@ -29,11 +30,12 @@ fn answer(page: &mut Page, line: &[u8]) -> Option<fmt::Result> {
     let count = words::count(line);
     let name = words::word(line, 0)?;
     let bytes = words::items_at(line, count, &mut room)?;
-    match count {
-        1 => notations::answer(page, name, bytes),
-        2 if name == b"pack".as_slice() => segments::answer(page, line, bytes),
-        2 => streams::answer(page, name, line, bytes),
-        9 => encode::answer(page, name, line, bytes),
+    match (count, name) {
+        (1, _) => notations::answer(page, name, bytes),
+        (2, b"pack") => segments::answer(page, line, bytes),
+        (2, b"short") => streams::answer(page, Form::Short, line, bytes),
+        (2, b"long") => streams::answer(page, Form::Long, line, bytes),
+        (9, b"encode") => encode::answer(page, line, bytes),
         _ => None,
     }
 }

@@ -80,12 +80,7 @@ fn read(page: &mut Page, form: Form, first: &[u8], second: &[u8]) -> fmt::Result
     write!(page, "end")
 }
 
-pub fn answer(page: &mut Page, name: &[u8], line: &[u8], bytes: &[u8]) -> Option<fmt::Result> {
-    let form = match name {
-        b"short" => Form::Short,
-        b"long" => Form::Long,
-        _ => return None,
-    };
+pub fn answer(page: &mut Page, form: Form, line: &[u8], bytes: &[u8]) -> Option<fmt::Result> {
     let (first, second) = bytes.split_at_checked(words::number_at(line, 1)?)?;
     Some(read(page, form, first, second))
 }
