@@ -2,6 +2,7 @@
 #![tactic(auto)]
 
 pub mod input;
+pub mod lines;
 pub mod room;
 pub mod say;
 pub mod tell;

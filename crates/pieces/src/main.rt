@@ -2,15 +2,15 @@
 // has the shape of a line.
 #![tactic(auto)]
 
+use cases::lines::{Answer, answer_input};
 use cases::room::filled;
 use cases::say::Page;
-use cases::tell::{Failure, tell};
-use cases::{input, words};
+use cases::tell::tell;
+use cases::words;
 use outcome::Outcome;
 use segment::Form;
 use std::fmt;
 use std::fmt::Write;
-use std::io::{Stdin, Stdout};
 use stream::collect;
 
 mod outcome;
@@ -38,60 +38,46 @@ fn form(word: &[u8]) -> Option<Form> {
     }
 }
 
-// None where the line is no case. Buffers and outputs are fresh, and filled so that every change shows: no mark is 1. Only the front of each is lent; where one
-// is not so long it is no case.
-fn answer(
-    page: &mut Page,
-    line: &[u8],
-    cuts: &mut [usize],
-    bytes: &mut [u8],
-) -> Option<fmt::Result> {
-    let form = form(words::word(line, 0)?)?;
-    let cuts = words::items_at(line, 5, cuts)?;
-    let bytes = words::items_at(line, 6, bytes)?;
-    let mut segment: [u8; SEGMENT_LEN] = filled(0xee);
-    let mut reassembly: [u8; REASSEMBLY_LEN] = filled(0xee);
-    let mut envelopes: [u8; ENVELOPES_LEN] = filled(0xee);
-    let mut marks: [usize; MARKS_LEN] = filled(1);
-    let segment = segment.get_mut(..words::number_at(line, 1)?)?;
-    let reassembly = reassembly.get_mut(..words::number_at(line, 2)?)?;
-    let envelopes = envelopes.get_mut(..words::number_at(line, 3)?)?;
-    let marks = marks.get_mut(..words::number_at(line, 4)?)?;
-    let all = collect(form, segment, reassembly, bytes, cuts, envelopes, marks);
-    let outcome = Outcome {
-        all,
-        segment,
-        reassembly,
-        envelopes,
-        marks,
-    };
-    Some(write!(page, "{outcome}"))
+// Room for what the words of a line stand for.
+#[derive(Drop)]
+struct Cases {
+    cuts: [usize; MOST],
+    bytes: [u8; MOST],
 }
 
-// The lines behind one whose answer can't be written are not answered.
-fn answer_all(page: &mut Page, input: &[u8]) -> fmt::Result {
-    let mut cuts: [usize; MOST] = filled(0);
-    let mut bytes: [u8; MOST] = filled(0);
-    for line in input.split_inclusive(|byte| *byte == b'\n') {
-        let line = line.strip_suffix(b"\n").unwrap_or(line);
-        match answer(page, line, &mut cuts, &mut bytes) {
-            Some(answered) => answered?,
-            None => write!(page, "?")?,
-        }
-        writeln!(page)?;
+// Buffers and outputs are fresh, and filled so that every change shows: no mark is 1. Only the front of each is lent; where one is not so long it is no case.
+impl Answer for Cases {
+    fn answer(&mut self, page: &mut Page, line: &[u8]) -> Option<fmt::Result> {
+        let form = form(words::word(line, 0)?)?;
+        let cuts = words::items_at(line, 5, &mut self.cuts)?;
+        let bytes = words::items_at(line, 6, &mut self.bytes)?;
+        let mut segment: [u8; SEGMENT_LEN] = filled(0xee);
+        let mut reassembly: [u8; REASSEMBLY_LEN] = filled(0xee);
+        let mut envelopes: [u8; ENVELOPES_LEN] = filled(0xee);
+        let mut marks: [usize; MARKS_LEN] = filled(1);
+        let segment = segment.get_mut(..words::number_at(line, 1)?)?;
+        let reassembly = reassembly.get_mut(..words::number_at(line, 2)?)?;
+        let envelopes = envelopes.get_mut(..words::number_at(line, 3)?)?;
+        let marks = marks.get_mut(..words::number_at(line, 4)?)?;
+        let all = collect(form, segment, reassembly, bytes, cuts, envelopes, marks);
+        let outcome = Outcome {
+            all,
+            segment,
+            reassembly,
+            envelopes,
+            marks,
+        };
+        Some(write!(page, "{outcome}"))
     }
-    page.flush()
-}
-
-fn run(stdin: Stdin, stdout: Stdout) -> Result<(), Failure> {
-    let mut lines: [u8; LINES_LEN] = filled(0);
-    let input = input::read_whole(stdin, &mut lines)?;
-    answer_all(&mut Page::new(stdout), input)?;
-    Ok(())
 }
 
 fn main(rt: HostRuntime) {
-    if let Err(why) = run(rt.stdin(), rt.stdout()) {
+    let mut lines: [u8; LINES_LEN] = filled(0);
+    let mut cases = Cases {
+        cuts: filled(0),
+        bytes: filled(0),
+    };
+    if let Err(why) = answer_input(&mut cases, rt.stdin(), rt.stdout(), &mut lines) {
         tell(rt.stderr(), "pieces", why);
     }
 }
