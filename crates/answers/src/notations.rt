@@ -46,30 +46,13 @@ fn short_bytes(page: &mut Page, bytes: &[u8]) -> fmt::Result {
     }
 }
 
-// What writes at the front of an output.
-#[derive(Clone, Copy)]
-enum Writer {
-    Text,
-    Bytes,
-    ShortBytes,
-    Null,
-}
-
-impl Writer {
-    fn write(self, output: &mut [u8], bytes: &[u8]) -> Written {
-        match self {
-            Writer::Text => write::write_string(output, 0, bytes),
-            Writer::Bytes => write::write_bytes(output, 0, bytes),
-            Writer::ShortBytes => write::write_short_bytes(output, 0, bytes),
-            Writer::Null => write::write_null(output, 0),
-        }
-    }
-
-    fn show(self, page: &mut Page, bytes: &[u8]) -> fmt::Result {
-        let mut output: [u8; OUTPUT_LEN] = filled(0);
-        let answer = results::written(self.write(&mut output, bytes));
-        outcome::written(page, answer, &output)
-    }
+// What is written at the front of an output.
+fn shown<F: FnOnce(&mut [u8]) -> Written>(page: &mut Page, write: F) -> fmt::Result
+    requires { F.IsAlwaysCallable write }
+{
+    let mut output: [u8; OUTPUT_LEN] = filled(0);
+    let answer = results::written(write(&mut output));
+    outcome::written(page, answer, &output)
 }
 
 pub fn answer(page: &mut Page, name: &[u8], bytes: &[u8]) -> Option<fmt::Result> {
@@ -87,10 +70,10 @@ pub fn answer(page: &mut Page, name: &[u8], bytes: &[u8]) -> Option<fmt::Result>
         ),
         b"bytes" => bytes_or_null(page, bytes),
         b"shortbytes" => short_bytes(page, bytes),
-        b"wstring" => Writer::Text.show(page, bytes),
-        b"wbytes" => Writer::Bytes.show(page, bytes),
-        b"wshortbytes" => Writer::ShortBytes.show(page, bytes),
-        b"wnull" if bytes.is_empty() => Writer::Null.show(page, bytes),
+        b"wstring" => shown(page, |output| write::write_string(output, 0, bytes)),
+        b"wbytes" => shown(page, |output| write::write_bytes(output, 0, bytes)),
+        b"wshortbytes" => shown(page, |output| write::write_short_bytes(output, 0, bytes)),
+        b"wnull" if bytes.is_empty() => shown(page, |output| write::write_null(output, 0)),
         b"piece" => segments::piece(page, bytes),
         _ => return None,
     };

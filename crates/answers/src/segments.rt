@@ -15,7 +15,8 @@ fn pack(page: &mut Page, first: &[u8], second: &[u8]) -> fmt::Result {
     let mut encoder = FrameEncoder::new(Form::Short);
     for envelope in [first, second] {
         let added = results::encoded(encoder.add_envelope_mut(&mut output, envelope));
-        write!(page, "{} ", if added.is_ok() { "yes" } else { "no" })?;
+        let word = if added.is_ok() { "yes" } else { "no" };
+        write!(page, "{word} ")?;
     }
     match results::encoded(encoder.finalize_self_contained_mut(&mut output)) {
         Ok((n, _)) => outcome::wrote(page, &output, n),

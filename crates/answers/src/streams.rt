@@ -1,11 +1,11 @@
 // The cases that read a stream, each with a fresh reader that is given it in two pieces.
 use crate::envelope::Whole;
-use crate::outcome;
 use cases::room::filled;
 use cases::say::Page;
 use cases::words;
 use frame::Envelope;
 use frame_decoder::{Answer, Buffer, FrameDecoder};
+use refusal::Refusal;
 use segment::Form;
 use std::fmt;
 use std::fmt::Write;
@@ -44,8 +44,8 @@ impl Stream {
         write!(page, "env {whole}; ")
     }
 
-    // Says the answers of a piece, and whether the stream goes on behind it. A refusal comes or more is asked for long before the turns are counted.
-    fn use_up(&mut self, page: &mut Page, piece: &[u8]) -> Result<bool, fmt::Error> {
+    // Says the envelopes of a piece, until more is asked for or a refusal comes, which it hands back. That is long before the turns are counted.
+    fn use_up(&mut self, page: &mut Page, piece: &[u8]) -> Result<Option<Refusal>, fmt::Error> {
         let mut rest = piece;
         for _ in 0..u64::MAX {
             let heard = self
@@ -56,26 +56,23 @@ impl Stream {
                     self.say_envelope(page, buffer, place, envelope)?;
                 }
                 Answer::Leftover(_) => {}
-                Answer::More => {
-                    write!(page, "more; ")?;
-                    return Ok(true);
-                }
-                Answer::Refused(why) => {
-                    outcome::refused(page, why)?;
-                    write!(page, "; ")?;
-                    return Ok(false);
-                }
+                Answer::More => return Ok(None),
+                Answer::Refused(why) => return Ok(Some(why)),
             }
             rest = rest.get(heard.taken..).unwrap_or(&[]);
         }
-        Ok(false)
+        Ok(None)
     }
 }
 
 fn read(page: &mut Page, form: Form, first: &[u8], second: &[u8]) -> fmt::Result {
     let mut stream = Stream::new(form);
-    if stream.use_up(page, first)? {
-        stream.use_up(page, second)?;
+    for piece in [first, second] {
+        if let Some(why) = stream.use_up(page, piece)? {
+            write!(page, "refused {}; ", why.number())?;
+            break;
+        }
+        write!(page, "more; ")?;
     }
     write!(page, "end")
 }

@@ -39,7 +39,7 @@ pub fn decimal(word: &[u8]) -> Option<usize> {
     Some(n)
 }
 
-// A number that may be below zero. There is no -0.
+// A number that may be below zero, and is then given by its bits turned over: how far it lies below -1. There is no -0.
 pub fn integer(word: &[u8]) -> Option<i64> {
     let Some(size) = word.strip_prefix(b"-") else {
         return i64::try_from(decimal(word)?).ok();
