@@ -1,5 +1,6 @@
 // What is written for a person: plain words and numbers. They gather in a page, and go out together when it is full or flushed.
 ghost use Rattle.std.specs.Prelude.{◌≡◌, ◌≤◌};
+ghost use Rattle.cases.specs.declared.say.TheConstants.{PAGE_LEN};
 
 use frame::{Direction, Header};
 use std::fmt;
@@ -14,7 +15,7 @@ pub struct Page {
     bytes: [u8; PAGE_LEN],
     filled: usize,
     stdout: Stdout,
-    ghost within: { filled ≤ 4096 },
+    ghost within: { filled ≤ PAGE_LEN },
 }
 
 impl Page {
