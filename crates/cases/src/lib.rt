@@ -5,5 +5,6 @@ pub mod input;
 pub mod lines;
 pub mod room;
 pub mod say;
+pub mod streams;
 pub mod tell;
 pub mod words;
