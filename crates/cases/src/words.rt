@@ -39,13 +39,13 @@ pub fn decimal(word: &[u8]) -> Option<usize> {
     Some(n)
 }
 
-// A number that may be below zero, and is then given by its bits turned over: how far it lies below -1. There is no -0.
+// A number that may be below zero. There is no -0.
 pub fn integer(word: &[u8]) -> Option<i64> {
     let Some(size) = word.strip_prefix(b"-") else {
         return i64::try_from(decimal(word)?).ok();
     };
     let below = i64::try_from(decimal(size)?.checked_sub(1)?).ok()?;
-    Some(!below)
+    Some(-1 - below)
 }
 
 // What stands in a list: a byte is two hexadecimal digits, a length a decimal number.
