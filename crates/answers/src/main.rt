@@ -1,7 +1,7 @@
 // Answers what each line of standard input asks, a line for a line. README.md beside src/ has the shapes of a line.
 #![tactic(auto)]
 
-use cases::lines::{Answer, answer_input};
+use cases::lines::{Answerer, answer_input};
 use cases::room::filled;
 use cases::say::Page;
 use cases::tell::tell;
@@ -27,7 +27,7 @@ const MOST: usize = 262_200;
 struct Questions;
 
 // The last word of each case is some bytes.
-impl Answer for Questions {
+impl Answerer for Questions {
     fn answer(&mut self, page: &mut Page, line: &[u8]) -> Option<fmt::Result> {
         let mut room: [u8; MOST] = filled(0);
         let count = words::count(line);

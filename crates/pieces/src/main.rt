@@ -2,7 +2,7 @@
 // has the shape of a line.
 #![tactic(auto)]
 
-use cases::lines::{Answer, answer_input};
+use cases::lines::{Answerer, answer_input};
 use cases::room::filled;
 use cases::say::Page;
 use cases::tell::tell;
@@ -46,7 +46,7 @@ struct Cases {
 }
 
 // Buffers and outputs are fresh, and filled so that every change shows: no mark is 1. Only the front of each is lent; where one is not so long it is no case.
-impl Answer for Cases {
+impl Answerer for Cases {
     fn answer(&mut self, page: &mut Page, line: &[u8]) -> Option<fmt::Result> {
         let form = form(words::word(line, 0)?)?;
         let cuts = words::items_at(line, 5, &mut self.cuts)?;
