@@ -1,99 +1,39 @@
-// The case that writes an envelope. The words are read one to a function, so that none holds all of them.
-use crate::{asked, outcome, room};
-use cases::say::{Out, Page};
-use cases::{say, words};
+// The case that writes an envelope.
+use crate::outcome::OUTPUT_LEN;
+use crate::{MOST, outcome, results};
+use cases::room::filled;
+use cases::say::Page;
+use cases::words;
 use frame::{Direction, Header, write};
-use types::number;
+use std::fmt;
 
-// The words of a header are such, and the name is this case's.
-fn is_asked(line: &[u8]) -> bool {
-    words::same(words::field(line, b' ', 0), b"encode")
-        && asked::number(line, 1) < 256
-        && words::index(b"req rsp", words::field(line, b' ', 2)) < 2
-        && asked::hex(line, 3) < 256
-        && asked::bits(line, 4) < 65_536
-        && asked::hex(line, 5) < 256
-}
-
-fn byte(n: usize) -> u8 {
-    (n % 256) as u8
-}
-
-fn stream(bits: usize) -> i16 {
-    number::signed16((bits % 65_536) as u16)
-}
-
-fn way(word: &[u8]) -> Direction {
-    if words::same(word, b"req") {
-        return Direction::Request;
-    }
-    Direction::Response
-}
-
-// Of words that are those of a header, so that a remainder is the number itself.
-fn header(line: &[u8]) -> Header {
-    let direction = way(words::field(line, b' ', 2));
-    Header {
-        version: byte(asked::number(line, 1)),
-        direction,
-        flags: byte(asked::hex(line, 3)),
-        stream: stream(asked::bits(line, 4)),
-        opcode: byte(asked::hex(line, 5)),
+fn direction(word: &[u8]) -> Option<Direction> {
+    match word {
+        b"req" => Some(Direction::Request),
+        b"rsp" => Some(Direction::Response),
+        _ => None,
     }
 }
 
-fn write_asked(
-    page: &mut Page,
-    out: Out,
-    line: &[u8],
-    id: &[u8],
-    text: &[u8],
-    lens: &[usize],
-    body: &[u8],
-) -> Out {
-    let mut output = room::output();
-    let answer = write::write_envelope(&mut output, header(line), id, text, lens, body);
-    outcome::written(page, out, answer, &output)
+fn header(line: &[u8]) -> Option<Header> {
+    Some(Header {
+        version: u8::try_from(words::number_at(line, 1)?).ok()?,
+        direction: direction(words::word(line, 2)?)?,
+        flags: words::hex_byte(words::word(line, 3)?)?,
+        stream: i16::try_from(words::integer(words::word(line, 4)?)?).ok()?,
+        opcode: words::hex_byte(words::word(line, 5)?)?,
+    })
 }
 
-fn with_text(page: &mut Page, out: Out, line: &[u8], id: &[u8], text: &[u8], body: &[u8]) -> Out {
-    let mut items = room::items();
-    let n = asked::lengths(line, 8, &mut items);
-    if asked::MOST < n {
-        return say::no_case(page, out);
-    }
-    write_asked(
-        page,
-        out,
-        line,
-        id,
-        text,
-        words::front_items(&items, n),
-        body,
-    )
-}
-
-fn with_id(page: &mut Page, out: Out, line: &[u8], id: &[u8], body: &[u8]) -> Out {
-    let mut text = room::bytes();
-    let n = asked::bytes(line, 7, &mut text);
-    if asked::MOST < n {
-        return say::no_case(page, out);
-    }
-    with_text(page, out, line, id, words::front(&text, n), body)
-}
-
-fn with_header(page: &mut Page, out: Out, line: &[u8], body: &[u8]) -> Out {
-    let mut id = room::bytes();
-    let n = asked::bytes(line, 6, &mut id);
-    if asked::MOST < n {
-        return say::no_case(page, out);
-    }
-    with_id(page, out, line, words::front(&id, n), body)
-}
-
-pub fn answer(page: &mut Page, out: Out, line: &[u8], body: &[u8]) -> Out {
-    if is_asked(line) {
-        return with_header(page, out, line, body);
-    }
-    say::no_case(page, out)
+pub fn answer(page: &mut Page, line: &[u8], body: &[u8]) -> Option<fmt::Result> {
+    let header = header(line)?;
+    let mut id: [u8; MOST] = filled(0);
+    let mut text: [u8; MOST] = filled(0);
+    let mut lens: [usize; MOST] = filled(0);
+    let mut output: [u8; OUTPUT_LEN] = filled(0);
+    let id = words::items_at(line, 6, &mut id)?;
+    let text = words::items_at(line, 7, &mut text)?;
+    let lens = words::items_at(line, 8, &mut lens)?;
+    let answer = write::write_envelope(&mut output, header, id, text, lens, body);
+    Some(outcome::written(page, results::written(answer), &output))
 }

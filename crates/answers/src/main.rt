@@ -1,69 +1,52 @@
 // Answers what each line of standard input asks, a line for a line. README.md beside src/ has the shapes of a line.
 #![tactic(auto)]
 
-use cases::say::{Out, Page};
-use cases::words::Number;
-use cases::{input, say, words};
+use cases::lines::{Answerer, answer_input};
+use cases::room::filled;
+use cases::say::Page;
+use cases::tell::tell;
+use cases::words;
+use segment::Form;
+use std::fmt;
 
-mod asked;
 mod encode;
 mod envelope;
 mod notations;
 mod outcome;
-mod room;
+mod results;
 mod segments;
 mod streams;
-mod writes;
 
-fn answer_three(page: &mut Page, out: Out, line: &[u8], bytes: &[u8]) -> Out {
-    if words::same(words::field(line, b' ', 0), b"pack") {
-        return segments::pack(page, out, line, bytes);
-    }
-    streams::answer(page, out, line, bytes)
-}
+// The longest input.
+const LINES_LEN: usize = 524_288;
 
-// Each list of names is short, so that no function has many cases.
-fn answer_with(page: &mut Page, out: Out, line: &[u8], bytes: &[u8]) -> Out {
-    match words::count(line, b' ') {
-        1 => envelope::answer(page, out, words::field(line, b' ', 0), bytes),
-        2 => answer_three(page, out, line, bytes),
-        9 => encode::answer(page, out, line, bytes),
-        _ => say::no_case(page, out),
-    }
-}
+// The most bytes or lengths that a word may stand for: two of the longest segments, with some bytes more.
+const MOST: usize = 262_200;
+
+#[derive(Drop)]
+struct Questions;
 
 // The last word of each case is some bytes.
-fn answer(page: &mut Page, out: Out, line: &[u8]) -> Out {
-    let mut bytes = room::bytes();
-    let n = asked::bytes(line, words::count(line, b' '), &mut bytes);
-    if asked::MOST < n {
-        return say::no_case(page, out);
-    }
-    answer_with(page, out, line, words::front(&bytes, n))
-}
-
-// The lines behind one whose answer can't be written are not answered.
-fn answer_all(page: &mut Page, out: Out, input: &[u8]) -> Out {
-    let mut said = out;
-    let mut start: usize = 0;
-    while start < input.len() {
-        let line = words::line(input, start);
-        let answered = answer(page, said, line);
-        said = say::end_line(page, answered);
-        if !said.sound {
-            return said;
+impl Answerer for Questions {
+    fn answer(&mut self, page: &mut Page, line: &[u8]) -> Option<fmt::Result> {
+        let mut room: [u8; MOST] = filled(0);
+        let count = words::count(line);
+        let name = words::word(line, 0)?;
+        let bytes = words::items_at(line, count, &mut room)?;
+        match (count, name) {
+            (1, _) => notations::answer(page, name, bytes),
+            (2, b"pack") => segments::answer(page, line, bytes),
+            (2, b"short") => streams::answer(page, Form::Short, line, bytes),
+            (2, b"long") => streams::answer(page, Form::Long, line, bytes),
+            (9, b"encode") => encode::answer(page, line, bytes),
+            _ => None,
         }
-        start += line.len() + 1;
     }
-    said
 }
 
 fn main(rt: HostRuntime) {
-    let mut lines = room::lines();
-    let Number::Value(n) = input::read_whole(rt.stdin(), rt.stderr(), b"answers", &mut lines) else {
-        return;
-    };
-    let mut page = say::new_page(rt.stdout());
-    let said = answer_all(&mut page, say::start(), words::front(&lines, n));
-    say::close(&page, said, rt.stderr(), b"answers");
+    let mut lines: [u8; LINES_LEN] = filled(0);
+    if let Err(why) = answer_input(&mut Questions, rt.stdin(), rt.stdout(), &mut lines) {
+        tell(rt.stderr(), "answers", why);
+    }
 }

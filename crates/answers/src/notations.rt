@@ -1,72 +1,81 @@
-// Notations that are read at the front of some bytes.
-use crate::{envelope, outcome, writes};
-use cases::say::{Out, Page};
-use cases::{say, words};
-use types::{Place, ReadBytes, ReadInt, ReadLong, ReadPart, ReadStrings, Walk, read};
+// The cases that have one word, some bytes.
+use crate::envelope::Texts;
+use crate::outcome::OUTPUT_LEN;
+use crate::{envelope, outcome, results, segments};
+use cases::room::filled;
+use cases::say::{Page, Spelt};
+use refusal::Refusal;
+use std::fmt;
+use std::fmt::{Display, Write};
+use types::{Place, Walk, Written, read, write};
 
-fn value(page: &mut Page, out: Out, x: i64, next: usize) -> Out {
-    let said = say::integer(page, out, b"value ", x);
-    outcome::next(page, said, next)
-}
-
-fn int(page: &mut Page, out: Out, bytes: &[u8]) -> Out {
-    match read::read_int(bytes, 0) {
-        ReadInt::Value(x, next) => value(page, out, x as i64, next),
-        ReadInt::Refused(why) => outcome::refused(page, out, why),
+fn value<T: Display + Drop>(page: &mut Page, answer: Result<(T, usize), Refusal>) -> fmt::Result {
+    match answer {
+        Ok((x, next)) => write!(page, "value {x} next {next}"),
+        Err(why) => outcome::refused(page, why),
     }
 }
 
-fn long(page: &mut Page, out: Out, bytes: &[u8]) -> Out {
-    match read::read_long(bytes, 0) {
-        ReadLong::Value(x, next) => value(page, out, x, next),
-        ReadLong::Refused(why) => outcome::refused(page, out, why),
+fn strings(page: &mut Page, bytes: &[u8], answer: Result<(Walk, usize), Refusal>) -> fmt::Result {
+    match answer {
+        Ok((walk, next)) => {
+            let texts = Texts { bytes, walk };
+            write!(page, "strings {texts} next {next}")
+        }
+        Err(why) => outcome::refused(page, why),
     }
 }
 
-fn strings(page: &mut Page, out: Out, bytes: &[u8], walk: Walk, next: usize) -> Out {
-    let said = envelope::texts(page, out, b"strings ", bytes, walk);
-    outcome::next(page, said, next)
+fn part(page: &mut Page, bytes: &[u8], place: Place, next: usize) -> fmt::Result {
+    let part = Spelt(types::part(bytes, place));
+    write!(page, "part {part} next {next}")
 }
 
-fn list(page: &mut Page, out: Out, bytes: &[u8]) -> Out {
-    match read::read_string_list(bytes, 0) {
-        ReadStrings::Strings(walk, next) => strings(page, out, bytes, walk, next),
-        ReadStrings::Refused(why) => outcome::refused(page, out, why),
+fn bytes_or_null(page: &mut Page, bytes: &[u8]) -> fmt::Result {
+    match results::bytes(read::read_bytes(bytes, 0)) {
+        Ok((Some(place), next)) => part(page, bytes, place, next),
+        Ok((None, next)) => write!(page, "null next {next}"),
+        Err(why) => outcome::refused(page, why),
     }
 }
 
-fn null(page: &mut Page, out: Out, next: usize) -> Out {
-    say::number(page, out, b"null next ", next)
-}
-
-fn part(page: &mut Page, out: Out, bytes: &[u8], place: Place, next: usize) -> Out {
-    let said = say::spelt(page, out, b"part ", types::part(bytes, place));
-    outcome::next(page, said, next)
-}
-
-fn bytes_or_null(page: &mut Page, out: Out, bytes: &[u8]) -> Out {
-    match read::read_bytes(bytes, 0) {
-        ReadBytes::Null(next) => null(page, out, next),
-        ReadBytes::Part(place, next) => part(page, out, bytes, place, next),
-        ReadBytes::Refused(why) => outcome::refused(page, out, why),
+fn short_bytes(page: &mut Page, bytes: &[u8]) -> fmt::Result {
+    match results::part(read::read_short_bytes(bytes, 0)) {
+        Ok((place, next)) => part(page, bytes, place, next),
+        Err(why) => outcome::refused(page, why),
     }
 }
 
-fn short_bytes(page: &mut Page, out: Out, bytes: &[u8]) -> Out {
-    match read::read_short_bytes(bytes, 0) {
-        ReadPart::Part(place, next) => part(page, out, bytes, place, next),
-        ReadPart::Refused(why) => outcome::refused(page, out, why),
-    }
+// What is written at the front of an output.
+fn shown<F: FnOnce(&mut [u8]) -> Written>(page: &mut Page, write: F) -> fmt::Result
+    requires { F.IsAlwaysCallable write }
+{
+    let mut output: [u8; OUTPUT_LEN] = filled(0);
+    let answer = results::written(write(&mut output));
+    outcome::written(page, answer, &output)
 }
 
-// What has another name may be something to write.
-pub fn answer(page: &mut Page, out: Out, name: &[u8], bytes: &[u8]) -> Out {
-    match words::index(b"int long list bytes shortbytes", name) {
-        0 => int(page, out, bytes),
-        1 => long(page, out, bytes),
-        2 => list(page, out, bytes),
-        3 => bytes_or_null(page, out, bytes),
-        4 => short_bytes(page, out, bytes),
-        _ => writes::answer(page, out, name, bytes),
-    }
+pub fn answer(page: &mut Page, name: &[u8], bytes: &[u8]) -> Option<fmt::Result> {
+    let answered = match name {
+        b"crc24" => write!(page, "{:06x}", crc::crc24(bytes)),
+        b"crc32" => write!(page, "{:08x}", crc::crc32(bytes)),
+        b"size" => envelope::size(page, bytes),
+        b"parse" => envelope::parse(page, bytes),
+        b"int" => value(page, results::int(read::read_int(bytes, 0))),
+        b"long" => value(page, results::long(read::read_long(bytes, 0))),
+        b"list" => strings(
+            page,
+            bytes,
+            results::strings(read::read_string_list(bytes, 0)),
+        ),
+        b"bytes" => bytes_or_null(page, bytes),
+        b"shortbytes" => short_bytes(page, bytes),
+        b"wstring" => shown(page, |output| write::write_string(output, 0, bytes)),
+        b"wbytes" => shown(page, |output| write::write_bytes(output, 0, bytes)),
+        b"wshortbytes" => shown(page, |output| write::write_short_bytes(output, 0, bytes)),
+        b"wnull" if bytes.is_empty() => shown(page, |output| write::write_null(output, 0)),
+        b"piece" => segments::piece(page, bytes),
+        _ => return None,
+    };
+    Some(answered)
 }

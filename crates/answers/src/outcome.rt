@@ -1,29 +1,25 @@
 // What several answers have in common.
-use cases::say::{Out, Page};
-use cases::{say, words};
+use cases::say::{Page, Spelt};
 use refusal::Refusal;
-use types::Written;
+use std::fmt;
+use std::fmt::Write;
 
-pub fn refused(page: &mut Page, out: Out, why: Refusal) -> Out {
-    say::refused(page, out, b"refused ", why)
-}
+// How long an output is: the longest segment, with some bytes more.
+pub const OUTPUT_LEN: usize = 131_200;
 
-pub fn incomplete(page: &mut Page, out: Out) -> Out {
-    say::text(page, out, b"incomplete")
-}
-
-pub fn next(page: &mut Page, out: Out, n: usize) -> Out {
-    say::number(page, out, b" next ", n)
+pub fn refused(page: &mut Page, why: Refusal) -> fmt::Result {
+    write!(page, "refused {}", why.number())
 }
 
 // Only what was written is shown.
-pub fn wrote(page: &mut Page, out: Out, output: &[u8], n: usize) -> Out {
-    say::spelt(page, out, b"wrote ", words::front(output, n))
+pub fn wrote(page: &mut Page, output: &[u8], n: usize) -> fmt::Result {
+    let written = Spelt(output.get(..n).unwrap_or(output));
+    write!(page, "wrote {written}")
 }
 
-pub fn written(page: &mut Page, out: Out, answer: Written, output: &[u8]) -> Out {
+pub fn written(page: &mut Page, answer: Result<usize, Refusal>, output: &[u8]) -> fmt::Result {
     match answer {
-        Written::Next(n) => wrote(page, out, output, n),
-        Written::Refused(why) => refused(page, out, why),
+        Ok(n) => wrote(page, output, n),
+        Err(why) => refused(page, why),
     }
 }

@@ -1,30 +1,35 @@
 // What went wrong, told on standard error behind the program's name. Where that fails as well, nobody is left to tell.
-use std::io::{Print, Stderr};
+use std::fmt;
+use std::io::{Eprint, Stderr};
 
-fn say(stderr: Stderr, words: &[u8]) {
-    let _unheard = stderr.write_all(words);
+#[derive(Clone, Copy, Debug, PartialEq, Eq)]
+pub enum Failure {
+    Unreadable,
+    Unwritable,
+    // The input has more bytes than so many.
+    TooLong(usize),
 }
 
-fn tell(stderr: Stderr, name: &[u8], what: &[u8]) {
-    say(stderr, name);
-    say(stderr, what);
+impl fmt::Display for Failure {
+    fn fmt<W: fmt::Write>(&self, f: &mut fmt::Formatter<W>) -> fmt::Result {
+        match self {
+            Failure::Unreadable => write!(f, "standard input can't be read"),
+            Failure::Unwritable => write!(f, "standard output can't be written"),
+            Failure::TooLong(most) => write!(
+                f,
+                "standard input is longer than {most} bytes, and none of it is answered"
+            ),
+        }
+    }
 }
 
-pub fn unreadable(stderr: Stderr, name: &[u8]) {
-    tell(stderr, name, b": standard input can't be read\n");
+// Only a page fails to be written to.
+impl From<fmt::Error> for Failure {
+    fn from(_e: fmt::Error) -> Failure {
+        Failure::Unwritable
+    }
 }
 
-pub fn unwritable(stderr: Stderr, name: &[u8]) {
-    tell(stderr, name, b": standard output can't be written\n");
-}
-
-pub fn too_long(stderr: Stderr, name: &[u8], most: usize) {
-    let mut digits = [0u8; 20];
-    let k = io::decimal(most as u64, &mut digits);
-    tell(stderr, name, b": standard input is longer than ");
-    tell(
-        stderr,
-        &digits[..k],
-        b" bytes, and none of it is answered\n",
-    );
+pub fn tell(stderr: Stderr, name: &str, why: Failure) {
+    let _unheard = stderr.eprintln(format_args!("{name}: {why}"));
 }

@@ -1,81 +1,59 @@
 // Writes both checks of what it reads from standard input, in pieces as they come.
 #![tactic(auto)]
 
-use cases::input::Piece;
-use cases::say::{Out, Page};
-use cases::{input, say, tell, words};
+use cases::say::Page;
+use cases::tell::{Failure, tell};
 use crc::{Running24, Running32};
-use std::io::Stdin;
+use std::fmt::Write;
+use std::io::{Read, Stdin, Stdout};
 
+// The checks as they are after some pieces.
 #[derive(Clone, Copy)]
 struct Sums {
     header: Running24,
     payload: Running32,
 }
 
-#[derive(Clone, Copy)]
-enum Step {
-    More(Sums),
-    End(Sums),
-    Failed,
-}
+impl Sums {
+    fn start() -> Sums {
+        Sums {
+            header: Running24::start(),
+            payload: Running32::start(),
+        }
+    }
 
-fn start() -> Sums {
-    Sums {
-        header: Running24::start(),
-        payload: Running32::start(),
+    fn more(self, piece: &[u8]) -> Sums {
+        Sums {
+            header: self.header.more(piece),
+            payload: self.payload.more(piece),
+        }
     }
 }
 
-fn with_piece(sums: Sums, piece: &[u8]) -> Sums {
-    let header = sums.header;
-    let payload = sums.payload;
-    Sums {
-        header: header.more(piece),
-        payload: payload.more(piece),
-    }
-}
-
-// Reads once, and takes what came into both sums.
-fn read_some(stdin: Stdin, sums: Sums) -> Step {
+// A proved loop has to end, and nothing says that an input does: the turns are counted to a number that no run comes to.
+fn read_all(mut stdin: Stdin) -> Result<Sums, Failure> {
+    let mut sums = Sums::start();
     let mut buffer = [0u8; 4096];
-    match input::read(stdin, &mut buffer) {
-        Piece::Bytes(n) => Step::More(with_piece(sums, words::front(&buffer, n))),
-        Piece::End => Step::End(sums),
-        Piece::Failed => Step::Failed,
+    for _ in 0..u64::MAX {
+        match stdin.read(&mut buffer).map_err(|_| Failure::Unreadable)? {
+            0 => return Ok(sums),
+            n => sums = sums.more(&buffer[..n]),
+        }
     }
+    Err(Failure::Unreadable)
 }
 
-// A proved loop has to end, and nothing says that an input does: the turns are counted down from a number that no run uses up.
-fn read_all(stdin: Stdin, sums: Sums) -> Step {
-    let mut all = sums;
-    let mut turns = u64::MAX;
-    while 0 < turns {
-        turns -= 1;
-        let step = read_some(stdin, all);
-        let Step::More(more) = step else {
-            return step;
-        };
-        all = more;
-    }
-    Step::More(all)
-}
-
-fn say_check(page: &mut Page, out: Out, name: &[u8], value: u32, digits: usize) -> Out {
-    let named = say::text(page, out, name);
-    let said = say::hex(page, named, value, digits);
-    say::end_line(page, said)
+fn run(stdin: Stdin, stdout: Stdout) -> Result<(), Failure> {
+    let sums = read_all(stdin)?;
+    let mut page = Page::new(stdout);
+    writeln!(page, "crc24 {:06x}", sums.header.finish())?;
+    writeln!(page, "crc32 {:08x}", sums.payload.finish())?;
+    page.flush()?;
+    Ok(())
 }
 
 fn main(rt: HostRuntime) {
-    let Step::End(sums) = read_all(rt.stdin(), start()) else {
-        tell::unreadable(rt.stderr(), b"checks");
-        return;
-    };
-    let header = sums.header;
-    let payload = sums.payload;
-    let mut page = say::new_page(rt.stdout());
-    let first = say_check(&mut page, say::start(), b"crc24 ", header.finish(), 6);
-    let both = say_check(&mut page, first, b"crc32 ", payload.finish(), 8);
-    say::close(&page, both, rt.stderr(), b"checks");
+    if let Err(why) = run(rt.stdin(), rt.stdout()) {
+        tell(rt.stderr(), "checks", why);
+    }
 }

@@ -1,0 +1,65 @@
+// A stream reader with its buffers, and what is said of its answers.
+use crate::say::Page;
+use frame::Envelope;
+use frame_decoder::{Answer, Buffer, FrameDecoder};
+use refusal::Refusal;
+use segment::Form;
+use std::fmt;
+use types::Place;
+
+// What a program says of the answers behind which it reads on.
+pub trait Listener {
+    fn envelope(page: &mut Page, bytes: &[u8], envelope: Envelope) -> fmt::Result;
+
+    fn leftover(page: &mut Page, n: usize) -> fmt::Result;
+}
+
+#[derive(Drop)]
+pub struct Stream<const SEGMENT_LEN: usize, const REASSEMBLY_LEN: usize> {
+    reader: FrameDecoder,
+    segment: [u8; SEGMENT_LEN],
+    reassembly: [u8; REASSEMBLY_LEN],
+}
+
+impl<const SEGMENT_LEN: usize, const REASSEMBLY_LEN: usize> Stream<SEGMENT_LEN, REASSEMBLY_LEN> {
+    pub fn new(form: Form) -> Self {
+        Stream {
+            reader: FrameDecoder::new(form, SEGMENT_LEN, REASSEMBLY_LEN),
+            segment: [0; SEGMENT_LEN],
+            reassembly: [0; REASSEMBLY_LEN],
+        }
+    }
+
+    // How many bytes of an unfinished segment or envelope are held.
+    pub fn held(&self) -> usize {
+        self.reader.held()
+    }
+
+    fn part(&self, buffer: Buffer, place: Place) -> &[u8] {
+        frame_decoder::part(buffer, &self.segment, &self.reassembly, place)
+    }
+
+    // Calls with the rest of a piece until more is asked for or a refusal comes, which it hands back. By 6.3 that is long before the turns are counted.
+    pub fn use_up<L: Listener>(
+        &mut self,
+        page: &mut Page,
+        piece: &[u8],
+    ) -> Result<Option<Refusal>, fmt::Error> {
+        let mut rest = piece;
+        for _ in 0..u64::MAX {
+            let heard = self
+                .reader
+                .consume(&mut self.segment, &mut self.reassembly, rest);
+            match heard.answer {
+                Answer::Envelope(buffer, place, envelope) => {
+                    L::envelope(page, self.part(buffer, place), envelope)?;
+                }
+                Answer::Leftover(n) => L::leftover(page, n)?,
+                Answer::More => return Ok(None),
+                Answer::Refused(why) => return Ok(Some(why)),
+            }
+            rest = rest.get(heard.taken..).unwrap_or(&[]);
+        }
+        Ok(None)
+    }
+}
