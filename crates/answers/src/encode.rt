@@ -1,10 +1,10 @@
 // The case that writes an envelope.
 use crate::outcome::OUTPUT_LEN;
-use crate::{MOST, outcome, results};
+use crate::{MOST, outcome};
 use cases::room::filled;
 use cases::say::Page;
 use cases::words;
-use frame::{Direction, Header, write};
+use frame::{Content, Direction, Header, write};
 use std::fmt;
 
 fn direction(word: &[u8]) -> Option<Direction> {
@@ -34,6 +34,12 @@ pub fn answer(page: &mut Page, line: &[u8], body: &[u8]) -> Option<fmt::Result> 
     let id = words::items_at(line, 6, &mut id)?;
     let text = words::items_at(line, 7, &mut text)?;
     let lens = words::items_at(line, 8, &mut lens)?;
-    let answer = write::write_envelope(&mut output, header, id, text, lens, body);
-    Some(outcome::written(page, results::written(answer), &output))
+    let content = Content {
+        id,
+        text,
+        lens,
+        body,
+    };
+    let answer = write::write_envelope(&mut output, header, content);
+    Some(outcome::written(page, answer, &output))
 }

@@ -1,10 +1,10 @@
 // Envelopes at the front of some bytes.
-use crate::{outcome, results};
+use crate::outcome;
 use cases::say::{Fields, Page, Spelt};
-use frame::{Envelope, Size, read};
+use frame::{Envelope, read};
 use std::fmt;
 use std::fmt::Write;
-use types::Walk;
+use types::{Walk, Walked};
 
 // How many texts a walk has, and these.
 #[derive(Drop)]
@@ -18,8 +18,7 @@ impl fmt::Display for Texts<'_> {
         let mut walk = self.walk;
         write!(f, "{}", walk.left)?;
         for _ in 0..self.walk.left {
-            let step = results::walked(types::read::next_string(self.bytes, walk));
-            let Ok(Some((place, rest))) = step else {
+            let Ok(Walked::Text(place, rest)) = types::read::next_string(self.bytes, walk) else {
                 break;
             };
             write!(f, " {}", Spelt(types::part(self.bytes, place)))?;
@@ -53,14 +52,14 @@ impl fmt::Display for Whole<'_> {
 
 pub fn size(page: &mut Page, bytes: &[u8]) -> fmt::Result {
     match read::envelope_size(bytes) {
-        Size::Incomplete => write!(page, "incomplete"),
-        Size::Whole(n) => write!(page, "whole {n}"),
-        Size::Refused(why) => outcome::refused(page, why),
+        Ok(None) => write!(page, "incomplete"),
+        Ok(Some(n)) => write!(page, "whole {n}"),
+        Err(why) => outcome::refused(page, why),
     }
 }
 
 pub fn parse(page: &mut Page, bytes: &[u8]) -> fmt::Result {
-    match results::reading(read::read_envelope(bytes)) {
+    match read::read_envelope(bytes) {
         Ok(None) => write!(page, "incomplete"),
         Ok(Some(envelope)) => {
             let size = envelope.size;

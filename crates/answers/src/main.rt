@@ -13,7 +13,6 @@ mod encode;
 mod envelope;
 mod notations;
 mod outcome;
-mod results;
 mod segments;
 mod streams;
 

@@ -1,13 +1,13 @@
 // The cases that have one word, some bytes.
 use crate::envelope::Texts;
 use crate::outcome::OUTPUT_LEN;
-use crate::{envelope, outcome, results, segments};
+use crate::{envelope, outcome, segments};
 use cases::room::filled;
 use cases::say::{Page, Spelt};
 use refusal::Refusal;
 use std::fmt;
 use std::fmt::{Display, Write};
-use types::{Place, Walk, Written, read, write};
+use types::{Place, Walk, read, write};
 
 fn value<T: Display + Drop>(page: &mut Page, answer: Result<(T, usize), Refusal>) -> fmt::Result {
     match answer {
@@ -32,7 +32,7 @@ fn part(page: &mut Page, bytes: &[u8], place: Place, next: usize) -> fmt::Result
 }
 
 fn bytes_or_null(page: &mut Page, bytes: &[u8]) -> fmt::Result {
-    match results::bytes(read::read_bytes(bytes, 0)) {
+    match read::read_bytes(bytes, 0) {
         Ok((Some(place), next)) => part(page, bytes, place, next),
         Ok((None, next)) => write!(page, "null next {next}"),
         Err(why) => outcome::refused(page, why),
@@ -40,18 +40,18 @@ fn bytes_or_null(page: &mut Page, bytes: &[u8]) -> fmt::Result {
 }
 
 fn short_bytes(page: &mut Page, bytes: &[u8]) -> fmt::Result {
-    match results::part(read::read_short_bytes(bytes, 0)) {
+    match read::read_short_bytes(bytes, 0) {
         Ok((place, next)) => part(page, bytes, place, next),
         Err(why) => outcome::refused(page, why),
     }
 }
 
 // What is written at the front of an output.
-fn shown<F: FnOnce(&mut [u8]) -> Written>(page: &mut Page, write: F) -> fmt::Result
+fn shown<F: FnOnce(&mut [u8]) -> Result<usize, Refusal>>(page: &mut Page, write: F) -> fmt::Result
     requires { F.IsAlwaysCallable write }
 {
     let mut output: [u8; OUTPUT_LEN] = filled(0);
-    let answer = results::written(write(&mut output));
+    let answer = write(&mut output);
     outcome::written(page, answer, &output)
 }
 
@@ -61,13 +61,9 @@ pub fn answer(page: &mut Page, name: &[u8], bytes: &[u8]) -> Option<fmt::Result>
         b"crc32" => write!(page, "{:08x}", crc::crc32(bytes)),
         b"size" => envelope::size(page, bytes),
         b"parse" => envelope::parse(page, bytes),
-        b"int" => value(page, results::int(read::read_int(bytes, 0))),
-        b"long" => value(page, results::long(read::read_long(bytes, 0))),
-        b"list" => strings(
-            page,
-            bytes,
-            results::strings(read::read_string_list(bytes, 0)),
-        ),
+        b"int" => value(page, read::read_int(bytes, 0)),
+        b"long" => value(page, read::read_long(bytes, 0)),
+        b"list" => strings(page, bytes, read::read_string_list(bytes, 0)),
         b"bytes" => bytes_or_null(page, bytes),
         b"shortbytes" => short_bytes(page, bytes),
         b"wstring" => shown(page, |output| write::write_string(output, 0, bytes)),

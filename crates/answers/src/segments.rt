@@ -1,10 +1,10 @@
 // The cases that write a segment, each with a fresh writer of the short form over an output that has room for any segment.
 use crate::outcome::OUTPUT_LEN;
-use crate::{MOST, outcome, results};
+use crate::{MOST, outcome};
 use cases::room::filled;
 use cases::say::Page;
 use cases::words;
-use frame_encoder::FrameEncoder;
+use frame_encoder::{FrameEncoder, Wrote};
 use segment::Form;
 use std::fmt;
 use std::fmt::Write;
@@ -14,12 +14,12 @@ fn pack(page: &mut Page, first: &[u8], second: &[u8]) -> fmt::Result {
     let mut output: [u8; OUTPUT_LEN] = filled(0);
     let mut encoder = FrameEncoder::new(Form::Short);
     for envelope in [first, second] {
-        let added = results::encoded(encoder.add_envelope_mut(&mut output, envelope));
+        let added = encoder.add_envelope_mut(&mut output, envelope);
         let word = if added.is_ok() { "yes" } else { "no" };
         write!(page, "{word} ")?;
     }
-    match results::encoded(encoder.finalize_self_contained_mut(&mut output)) {
-        Ok((n, _)) => outcome::wrote(page, &output, n),
+    match encoder.finalize_self_contained_mut(&mut output) {
+        Ok(wrote) => outcome::wrote(page, &output, wrote.size),
         Err(why) => outcome::refused(page, why),
     }
 }
@@ -33,10 +33,10 @@ pub fn answer(page: &mut Page, line: &[u8], second: &[u8]) -> Option<fmt::Result
 pub fn piece(page: &mut Page, bytes: &[u8]) -> fmt::Result {
     let mut output: [u8; OUTPUT_LEN] = filled(0);
     let mut encoder = FrameEncoder::new(Form::Short);
-    match results::encoded(encoder.finalize_non_self_contained_mut(&mut output, bytes)) {
-        Ok((n, taken)) => {
+    match encoder.finalize_non_self_contained_mut(&mut output, bytes) {
+        Ok(Wrote { size, taken }) => {
             write!(page, "took {taken} ")?;
-            outcome::wrote(page, &output, n)
+            outcome::wrote(page, &output, size)
         }
         Err(why) => outcome::refused(page, why),
     }

@@ -51,12 +51,12 @@ impl<const SEGMENT_LEN: usize, const REASSEMBLY_LEN: usize> Stream<SEGMENT_LEN, 
                 .reader
                 .consume(&mut self.segment, &mut self.reassembly, rest);
             match heard.answer {
-                Answer::Envelope(buffer, place, envelope) => {
+                Ok(Answer::Envelope(buffer, place, envelope)) => {
                     L::envelope(page, self.part(buffer, place), envelope)?;
                 }
-                Answer::Leftover(n) => L::leftover(page, n)?,
-                Answer::More => return Ok(None),
-                Answer::Refused(why) => return Ok(Some(why)),
+                Ok(Answer::Leftover(n)) => L::leftover(page, n)?,
+                Ok(Answer::More) => return Ok(None),
+                Err(why) => return Ok(Some(why)),
             }
             rest = rest.get(heard.taken..).unwrap_or(&[]);
         }
