@@ -63,7 +63,7 @@ pub fn crc24(bytes: &[u8]) -> u32
 }
 
 // The check of bytes that come in parts: start, more for each part, finish.
-#[derive(Clone, Copy)]
+#[derive(Clone, Copy, Debug, PartialEq, Eq)]
 pub struct Running24 {
     pub value: u32,
 }

@@ -18,7 +18,7 @@ pub fn crc32(bytes: &[u8]) -> u32
 }
 
 // The check of a payload that comes in parts: start, more for each part, finish.
-#[derive(Clone, Copy)]
+#[derive(Clone, Copy, Debug, PartialEq, Eq)]
 pub struct Running32 {
     pub value: u32,
 }

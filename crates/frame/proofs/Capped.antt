@@ -17,17 +17,6 @@ pub capped_large : {n : ℕ} → max_body < n → capped n ≡ max_body + 1
 unfolding capped
 capped_large {n} h = ap (λ (t : Bool). cond t n (max_body + 1)) (lt-leb n max_body h)
 
-pub capped_most : (n : ℕ) → capped n ≤ max_body + 1
-capped_most n =
-    elim (dec_le n max_body) [
-      | yes h ↦ omega (arith, capped_small h)
-      | no h ↦ omega (arith, capped_large (lt_of_not-le h))
-    ]
-
--- so a number that is a capped one is no larger
-pub capped_bound : {r : ℕ} (n : ℕ) → r ≡ capped n → r ≤ max_body + 1
-capped_bound n e = omega (arith, e, capped_most n)
-
 pub capped_plus : (a b : ℕ) → capped (capped a + b) ≡ capped (a + b)
 capped_plus a b =
     elim (dec_le a max_body) [

@@ -45,7 +45,7 @@ pub struct Header {
 }
 
 // What an envelope is to hold: a tracing id, warnings (the texts that the lengths cut the one text into), and the rest of its body.
-#[derive(Clone, Copy)]
+#[derive(Clone, Copy, Debug, PartialEq, Eq)]
 pub struct Content<'a> {
     pub id: &'a [u8],
     pub text: &'a [u8],

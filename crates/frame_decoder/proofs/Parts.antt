@@ -16,12 +16,6 @@ use Rattle.segment.specs.Header.{Form, Header, header_length}
 use Rattle.segment.specs.Segment.{Segment, segment_length, behind, payload_at}
 use Rattle.segment.proofs.Cases.{Payloads, payload_cut, payload_differs, payload_good, payload_case}
 
--- what is unread of a payload that begins at h
-pub unread_part : (s : List ℕ) {k h : ℕ} (len at : ℕ) → k ≡ h → take (k + len - (k + at)) (drop (k + at) s) ≡ part s (h + at) (len - at)
-unread_part s {k} {h} len at e =
-    let n : k + len - (k + at) ≡ len - at = omega arith in
-    ap (λ (i : ℕ). take i (drop (k + at) s)) n ∙ ap (λ (i : ℕ). part s (i + at) (len - at)) e
-
 -- a part up to the end is the tail
 pub tail_part : (d : List ℕ) (at : ℕ) → take (length d - at) (drop at d) ≡ drop at d
 tail_part d at = take_all (length d - at) (drop at d) (le_of_eq (length-drop at d))

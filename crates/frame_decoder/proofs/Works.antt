@@ -155,12 +155,6 @@ pub waiting : (r : Reader) (seg re : List ℕ) → Admitted r (length seg) (leng
     → Admitted x (length seg) (length re) × (length re' ≡ length re) × (0 < wanted (counts_of x))
 waiting r seg re ok e = subst (λ (o : Settled). Sound (length seg) (length re) o.says o.reassembly) e (settle_sound r (length seg) (length re) ok seg re refl refl)
 
--- no more is taken than is there
-pub next_within : (piece : List ℕ) (taken m : ℕ) {k : ℕ} {rest : List ℕ} → k ≡ min m (length rest) → rest ≡ drop taken piece → taken ≤ length piece → taken + k ≤ length piece
-next_within piece taken m {k} {rest} c e h =
-    let l : length rest ≡ length piece - taken = ap length e ∙ length-drop taken piece in
-    omega (arith, c, min-le_right m (length rest))
-
 -- a waiting reader that takes what it can of the rest of a piece
 pub onward : (taken : ℕ) (r : Reader) (seg re piece : List ℕ) → Admitted r (length seg) (length re) → taken < length piece
     → {x y : Reader} {re' seg' : List ℕ} {k : ℕ} → settle r seg re ≡ settled (waits x) re' → k ≡ min (wanted (counts_of x)) (length (drop taken piece)) → y ≡ pushed k x

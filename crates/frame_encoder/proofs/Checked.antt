@@ -1,12 +1,11 @@
 -- What the checks of a segment writer say, and what is known where they have passed. Assumes nothing.
 use Prim.Native.Nat.{ℕ, ◌+◌, ◌≤◌, ◌<◌}
 use mathlib.Core.Path.{◌≡◌, ap}
-use mathlib.Core.Bool.{Bool, true, cond}
+use mathlib.Core.Bool.{true}
 use mathlib.Core.List.{List}
-use native.Mathlib.Decide.{dec_le}
-use native.Mathlib.Nat.{lt_of_not-le}
 use native.Mathlib.Omega.{arith}
-use borrow.Author.Tests.{le-leb, lt-leb, leb-true, ltb-true, eqb-true}
+use Rattle.std.proofs.lemmas.Bool.Decides.{nat_tests}
+use borrow.Author.Tests.{leb-true, ltb-true, eqb-true}
 use lib.Dec.{leb, eqb}
 use Rattle.refusal.specs.Refusal.{inadmissible, output_too_short, envelope_does_not_fit, segment_not_empty}
 use Rattle.types.specs.Write.{Check, fine}
@@ -61,27 +60,13 @@ piece_fine w room n e =
 
 -- ---- the piece of an envelope
 
-pub piece_all : (n : ℕ) → n ≤ max_payload → piece_of n ≡ n
-unfolding piece_of
-piece_all n h = ap (λ (t : Bool). cond t n max_payload) (le-leb n max_payload h)
-
-pub piece_front : (n : ℕ) → max_payload < n → piece_of n ≡ max_payload
-unfolding piece_of
-piece_front n h = ap (λ (t : Bool). cond t n max_payload) (lt-leb n max_payload h)
-
 pub piece_most : (n : ℕ) → (piece_of n ≤ n) × (piece_of n ≤ max_payload)
-piece_most n =
-    elim (dec_le n max_payload) [
-      | yes h ↦ let e = piece_all n h in (omega (arith, e), omega (arith, e))
-      | no h ↦ let k : max_payload < n = lt_of_not-le h in let e = piece_front n k in (omega (arith, e), omega (arith, e))
-    ]
+unfolding piece_of
+piece_most n = grind (arith, nat_tests)
 
 pub piece_some : (n : ℕ) → 0 < n → 0 < piece_of n
-piece_some n some =
-    elim (dec_le n max_payload) [
-      | yes h ↦ omega (arith, piece_all n h)
-      | no h ↦ omega (arith, piece_front n (lt_of_not-le h))
-    ]
+unfolding piece_of
+piece_some n some = grind (arith, nat_tests)
 
 -- ---- what a call leaves
 

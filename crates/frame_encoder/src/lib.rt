@@ -93,10 +93,11 @@ impl FrameEncoder {
     }
 
     // What was added is forgotten.
-    pub fn reset(self) -> FrameEncoder
+    pub fn reset(mut self) -> FrameEncoder
         ensures { paper_writer result ≡ fresh (paper_form self.form) }
     {
-        FrameEncoder::new(self.form)
+        self.payload = 0;
+        self
     }
 
     // 1, 16, 14.

@@ -9,23 +9,6 @@ use lib.Dec.{eqb}
 use Rattle.segment.specs.Header.{Form, short, long, Header, header, lengths, number_length, self_weight, uncompressed_of, uncompressed_part, fields_of, header_number}
 use Rattle.segment.specs.ThereAndBack.{Fits, used_bits}
 
-pub number_most : (f : Form) → number_length f ≤ 5
-number_most short = omega arith
-number_most long = omega arith
-
-pub weight_positive : (f : Form) → 0 < self_weight f
-weight_positive short = omega arith
-weight_positive long = omega arith
-
-pub weight_most : (f : Form) (t : Bool) → cond t (self_weight f) 0 ≤ 2 ^ 34
-weight_most short true = omega arith
-weight_most long true = omega arith
-weight_most f false = omega arith
-
-pub part_most : (f : Form) (n : ℕ) → uncompressed_part f n < 2 ^ 34
-part_most short n = omega arith
-part_most long n = omega arith
-
 pub number_below : (f : Form) (h : Header) → header_number f h < used_bits f
 unfolding header_number
 number_below f h = go f h.self

@@ -16,8 +16,8 @@ pub fn read_number(bytes: &[u8], at: usize, n: usize) -> u64
     ensures { (result ≡ le (part bytes.now at n)) × (result < 256 ^ n) }
 {
     let mut value = 0;
-    for b in bytes[at..at + n].iter().rev() {
-        value = value * 256 + *b as u64;
+    for &b in bytes[at..at + n].iter().rev() {
+        value = value * 256 + b as u64;
     }
     value
 }

@@ -9,7 +9,6 @@ pub mod Pieces
 pub mod Segments
 pub mod Legal
 pub mod Sent
-pub mod Noting
 pub mod Turns
 pub mod Demand3
 pub mod Shut

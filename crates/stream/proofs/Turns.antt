@@ -25,11 +25,16 @@ use Rattle.stream.specs.Private.Inside.{Way, Going, noted_all, Onward, ending_of
 use Rattle.stream.specs.Private.Turn.{way_of, AllHeard, PieceUsed, Answered, TurnIs, UsedIs}
 use Rattle.stream.specs.declared.Collected.{Collected}
 use Rattle.stream.specs.declared.Progress.{Progress}
-use Rattle.stream.specs.declared.Turn.{Turn}
-use Rattle.stream.specs.declared.Used.{Used}
+use Rattle.std.proofs.Common.{ControlFlow, Continue, Break}
 use Rattle.stream.proofs.Calls.{Called, called}
 use Rattle.stream.proofs.Longer.{call_waiting}
 use Rattle.stream.proofs.Pieces.{reader, lawful, fresh_ready, fresh_rest, heard_none, out_of_range}
+
+abbrev pub Used : Type 0
+Used = ControlFlow Collected Progress
+
+abbrev pub Turn : Type 0
+Turn = ControlFlow Used Progress
 
 -- ---- ways on
 
@@ -179,25 +184,25 @@ module _ {stream : List ℕ} {end : ℕ} {w : Way} (asked : Going stream w × (w
 -- ---- what a turn means, and a piece that was given, by what it came to
 
 module _ (end : ℕ) {stream : List ℕ} {w : Way} {S R E M : List ℕ} where
-  pub turn_on : {y : Turn} {p : Progress} → y ≡ Turn.On p → TurnIs y end stream w S R E M → Answered stream end w (way_of p S R E M)
+  pub turn_on : {y : Turn} {p : Progress} → y ≡ Continue p → TurnIs y end stream w S R E M → Answered stream end w (way_of p S R E M)
   unfolding TurnIs
   turn_on is m = subst (λ (x : Turn). TurnIs x end stream w S R E M) is m
 
-  pub used_up_lem : {y : Used} {p : Progress} → y ≡ Used.Up p → UsedIs y end stream w S R E M → PieceUsed stream end w (way_of p S R E M)
+  pub used_up_lem : {y : Used} {p : Progress} → y ≡ Continue p → UsedIs y end stream w S R E M → PieceUsed stream end w (way_of p S R E M)
   unfolding UsedIs
   used_up_lem is m = subst (λ (x : Used). UsedIs x end stream w S R E M) is m
 
-  pub used_stopped : {y : Used} {c : Collected} → y ≡ Used.Stopped c → UsedIs y end stream w S R E M → AllHeard c stream w S R E M
+  pub used_stopped : {y : Used} {c : Collected} → y ≡ Break c → UsedIs y end stream w S R E M → AllHeard c stream w S R E M
   unfolding UsedIs
   used_stopped is m = subst (λ (x : Used). UsedIs x end stream w S R E M) is m
 
 -- what was handed on before comes first
 used_then : (u : Used) {stream : List ℕ} {w v : Way} (end : ℕ) (S R E M : List ℕ) → Onward stream w v → UsedIs u end stream v S R E M → UsedIs u end stream w S R E M
 unfolding UsedIs
-used_then (Used.Up p) end S R E M o m = record { going = m.going; all = m.all; wants = m.wants; onward = onward_then o m.onward }
-used_then (Used.Stopped c) end S R E M o m = onward_over o m
+used_then (Continue p) end S R E M o m = record { going = m.going; all = m.all; wants = m.wants; onward = onward_then o m.onward }
+used_then (Break c) end S R E M o m = onward_over o m
 
-pub turn_done : {y : Turn} {u : Used} {stream : List ℕ} {w v : Way} (end : ℕ) (S R E M : List ℕ) → Onward stream w v → y ≡ Turn.Done u → TurnIs y end stream v S R E M → UsedIs u end stream w S R E M
+pub turn_done : {y : Turn} {u : Used} {stream : List ℕ} {w v : Way} (end : ℕ) (S R E M : List ℕ) → Onward stream w v → y ≡ Break u → TurnIs y end stream v S R E M → UsedIs u end stream w S R E M
 unfolding TurnIs
 turn_done {u = u} {stream} {v = v} end S R E M o is m = used_then u end S R E M o (subst (λ (x : Turn). TurnIs x end stream v S R E M) is m)
 

@@ -12,20 +12,21 @@ ghost use Rattle.stream.specs.Private.Inside.{Going};
 ghost use Rattle.stream.specs.declared.End.{End};
 ghost use Rattle.stream.specs.Private.Turn.{way_of, AllHeard, TurnIs, UsedIs};
 
-use frame_decoder::{Answer, FrameDecoder, in_range, part};
+use frame_decoder::{Answer, FrameDecoder, Step, in_range, part};
 use refusal::Refusal;
 use segment::Form;
+use std::ops::ControlFlow;
 use types::inner;
 
 // How many answers were written down, how many bytes of envelopes, and whether that is all.
-#[derive(Clone, Copy)]
+#[derive(Clone, Copy, Debug, PartialEq, Eq)]
 pub struct Notes {
     pub answers: usize,
     pub bytes: usize,
     pub complete: bool,
 }
 
-#[derive(Clone, Copy)]
+#[derive(Clone, Copy, Debug, PartialEq, Eq)]
 pub enum End {
     // The refusal, and how many bytes were taken up to it.
     Refused(Refusal, usize),
@@ -33,7 +34,7 @@ pub enum End {
     Held(usize, usize),
 }
 
-#[derive(Clone, Copy)]
+#[derive(Clone, Copy, Debug, PartialEq, Eq)]
 pub struct Collected {
     pub notes: Notes,
     pub end: End,
@@ -42,28 +43,28 @@ pub struct Collected {
 // ---- writing down
 
 // An answer's bytes behind those before, and its mark.
+#[tactic(auto, unfolding(crate::specs::Collect::noted))]
 fn note(notes: Notes, envelopes: &mut [u8], marks: &mut [usize], bytes: &[u8], mark: usize) -> Notes
     ensures { tape_of result envelopes.new marks.new ≡ noted bytes.now mark (tape_of notes envelopes.old marks.old) }
 {
-    let answers = notes.answers;
-    let count = notes.bytes;
-    if notes.complete {
-        if answers < marks.len() {
-            if inner::room(envelopes.len(), count, bytes.len()) {
-                marks[answers] = mark;
-                inner::put_bytes(envelopes, count, bytes);
-                return Notes {
-                    answers: answers + 1,
-                    bytes: count + bytes.len(),
-                    complete: true,
-                };
-            }
-        }
-    }
-    Notes {
+    let Notes {
         answers,
         bytes: count,
-        complete: false,
+        complete,
+    } = notes;
+    if complete && answers < marks.len() && inner::room(envelopes.len(), count, bytes.len()) {
+        marks[answers] = mark;
+        inner::put_bytes(envelopes, count, bytes);
+        Notes {
+            answers: answers + 1,
+            bytes: count + bytes.len(),
+            complete: true,
+        }
+    } else {
+        Notes {
+            complete: false,
+            ..notes
+        }
     }
 }
 
@@ -78,18 +79,10 @@ struct Progress {
 }
 
 // What a piece leaves: it is used up, or the reader has stopped.
-#[derive(Clone, Copy)]
-enum Used {
-    Up(Progress),
-    Stopped(Collected),
-}
+type Used = ControlFlow<Collected, Progress>;
 
 // What one call leaves: another answer to hear, or what its piece leaves.
-#[derive(Clone, Copy)]
-enum Turn {
-    On(Progress),
-    Done(Used),
-}
+type Turn = ControlFlow<Used, Progress>;
 
 // One call with the bytes of the stream up to end.
 fn hear(
@@ -105,40 +98,37 @@ fn hear(
     ensures { TurnIs result end stream.now (way_of p segment.old reassembly.old envelopes.old marks.old) segment.new reassembly.new envelopes.new marks.new }
 {
     let at = p.taken;
-    let notes = p.notes;
-    let reader = p.reader;
-    let step = reader.read(segment, reassembly, &stream[at..end]);
-    let next = step.reader;
-    let heard = step.heard;
+    let Step { reader, heard } = p.reader.read(segment, reassembly, &stream[at..end]);
     let taken = at + heard.taken;
-    let answer = heard.answer;
+    let answer = match heard.answer {
+        Ok(answer) => answer,
+        Err(e) => {
+            let end = End::Refused(e, taken);
+            return ControlFlow::Break(ControlFlow::Break(Collected {
+                notes: p.notes,
+                end,
+            }));
+        }
+    };
     match answer {
         Answer::Envelope(buffer, place, _) => {
             let bytes = part(buffer, segment, reassembly, place);
-            let more = note(notes, envelopes, marks, bytes, bytes.len() * 2);
-            Turn::On(Progress {
-                reader: next,
+            let notes = note(p.notes, envelopes, marks, bytes, bytes.len() * 2);
+            ControlFlow::Continue(Progress {
+                reader,
                 taken,
-                notes: more,
+                notes,
             })
         }
         Answer::Leftover(n) => {
-            let more = note(notes, envelopes, marks, &stream[..0], n * 2 + 1);
-            Turn::On(Progress {
-                reader: next,
+            let notes = note(p.notes, envelopes, marks, &[], n * 2 + 1);
+            ControlFlow::Continue(Progress {
+                reader,
                 taken,
-                notes: more,
+                notes,
             })
         }
-        Answer::More => Turn::Done(Used::Up(Progress {
-            reader: next,
-            taken,
-            notes,
-        })),
-        Answer::Refused(e) => {
-            let end = End::Refused(e, taken);
-            Turn::Done(Used::Stopped(Collected { notes, end }))
-        }
+        Answer::More => ControlFlow::Break(ControlFlow::Continue(Progress { reader, taken, ..p })),
     }
 }
 
@@ -158,12 +148,8 @@ fn use_up(
     let mut p = start;
     loop {
         match hear(p, end, segment, reassembly, stream, envelopes, marks) {
-            Turn::On(next) => {
-                p = next;
-            }
-            Turn::Done(used) => {
-                return used;
-            }
+            ControlFlow::Continue(next) => p = next,
+            ControlFlow::Break(used) => return used,
         }
     }
 }
@@ -180,12 +166,10 @@ fn piece_end(taken: usize, cut: usize, len: usize) -> usize
 fn at_end(p: Progress) -> Collected
     ensures { (result.notes ≡ p.notes) × (result.end ≡ End.Held (counts_of (paper_reader p.reader)).there p.reader.pending) }
 {
-    let notes = p.notes;
-    let reader = p.reader;
-    let pending = reader.pending;
-    let filled = reader.filled();
-    let end = End::Held(filled, pending);
-    Collected { notes, end }
+    Collected {
+        notes: p.notes,
+        end: End::Held(p.reader.filled(), p.reader.pending),
+    }
 }
 
 // All that is left of the stream as one piece.
@@ -209,8 +193,8 @@ fn give_rest(
         envelopes,
         marks,
     ) {
-        Used::Up(last) => at_end(last),
-        Used::Stopped(c) => c,
+        ControlFlow::Continue(last) => at_end(last),
+        ControlFlow::Break(all) => all,
     }
 }
 
@@ -228,19 +212,12 @@ fn give(
     ensures { AllHeard result stream.now (way_of start segment.old reassembly.old envelopes.old marks.old) segment.new reassembly.new envelopes.new marks.new }
 {
     let mut p = start;
-    let mut i: usize = 0;
-    while i < cuts.len() {
-        let taken = p.taken;
-        let end = piece_end(taken, cuts[i], stream.len());
+    for &cut in cuts {
+        let end = piece_end(p.taken, cut, stream.len());
         match use_up(p, end, segment, reassembly, stream, envelopes, marks) {
-            Used::Up(next) => {
-                p = next;
-            }
-            Used::Stopped(c) => {
-                return c;
-            }
+            ControlFlow::Continue(next) => p = next,
+            ControlFlow::Break(all) => return all,
         }
-        i += 1;
     }
     give_rest(p, segment, reassembly, stream, envelopes, marks)
 }
@@ -264,15 +241,14 @@ pub fn collect(
         bytes: 0,
         complete: true,
     };
-    if in_range(segment.len(), reassembly.len()) {
-        let reader = FrameDecoder::new(form, segment.len(), reassembly.len());
-        let start = Progress {
-            reader,
-            taken: 0,
-            notes,
-        };
-        return give(start, segment, reassembly, stream, cuts, envelopes, marks);
+    if !in_range(segment.len(), reassembly.len()) {
+        let end = End::Refused(Refusal::Inadmissible, 0);
+        return Collected { notes, end };
     }
-    let end = End::Refused(Refusal::Inadmissible, 0);
-    Collected { notes, end }
+    let start = Progress {
+        reader: FrameDecoder::new(form, segment.len(), reassembly.len()),
+        taken: 0,
+        notes,
+    };
+    give(start, segment, reassembly, stream, cuts, envelopes, marks)
 }

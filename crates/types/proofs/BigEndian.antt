@@ -5,7 +5,7 @@ use mathlib.Core.Path.{◌≡◌, refl, sym, ap, ap₂, ◌∙◌}
 use mathlib.Core.List.{List, [], ◌∷◌, ◌++◌}
 use native.Mathlib.Omega.{arith}
 use native.Mathlib.Numerals.{add-one}
-use native.Mathlib.Nat.{lt_of_lt_of_le, pow-le-pow_right, pow-suc, zero-lt-suc, one-le-pow, mod-one, mod-eq_of_lt, le_of_eq, add-sub_cancel_left}
+use native.Mathlib.Nat.{pow-suc, zero-lt-suc, one-le-pow, mod-one, mod-eq_of_lt, le_of_eq, add-sub_cancel_left}
 use lib.ListN.{length, take, drop, get_or, length-drop, length-append}
 use lib.Seq.{take-suc, take_all, get_or-drop, length-take-le}
 use lib.Arith.{digits_lt, mod-mul, digits_div, digits_mod}
@@ -23,23 +23,11 @@ be_snoc : (s : List ℕ) (b : ℕ) → be (s ++ (b ∷ [])) ≡ be s * 256 + b
 unfolding be
 be_snoc s b = be_from_snoc 0 s b
 
-part_suc : (s : List ℕ) (at i : ℕ) → at + i < length s → part s at (i + 1) ≡ part s at i ++ (get_or s (at + i) 0 ∷ [])
-part_suc s at i h =
-    let k : i < length (drop at s) = simp length-drop (omega arith) in
-    rw (add-one, take-suc (drop at s) i 0, get_or-drop)
-
-pub be_part_suc : (s : List ℕ) (at i : ℕ) → at + i < length s → be (part s at (i + 1)) ≡ be (part s at i) * 256 + get_or s (at + i) 0
-be_part_suc s at i h = ap be (part_suc s at i h) ∙ be_snoc (part s at i) (get_or s (at + i) 0)
-
 pub be_take_suc : (s : List ℕ) (i : ℕ) → i < length s → be (take (i + 1) s) ≡ be (take i s) * 256 + get_or s i 0
 be_take_suc s i h = ap be (rw add-one (take-suc s i 0 h)) ∙ be_snoc (take i s) (get_or s i 0)
 
 pub more_below : (i : ℕ) {v b : ℕ} → v < 256 ^ i → b < 256 → v * 256 + b < 256 ^ (i + 1)
 more_below i hv hb = rw (add-one, pow-suc) (digits_lt hv hb)
-
--- what i + 1 bytes hold is less than what 8 do
-pub below_eight : {i x : ℕ} → i < 8 → x < 256 ^ (i + 1) → x < 2 ^ 64
-below_eight {i} h k = lt_of_lt_of_le k (pow-le-pow_right {n = 256} (zero-lt-suc 255) {j = 8} (omega arith))
 
 -- ---- parts
 

@@ -1,6 +1,5 @@
 -- Laws that belong to no one function.
 pub mod BigEndian
-pub mod Signed
 pub mod Put
 pub mod Cut
 pub mod Holds
@@ -13,6 +12,5 @@ pub mod Refusing
 pub mod Walking
 pub mod Told
 pub mod Determined
-pub mod Tested
 pub mod Reading
 pub mod Found

@@ -17,7 +17,7 @@ use Rattle.refusal.specs.Refusal.{Refusal, past_end, not_utf8}
 use Rattle.types.specs.Answer.{Answer, got, refused, and_then}
 use Rattle.types.specs.Number.{be, part}
 use Rattle.utf8.specs.Utf8.{utf8}
-use Rattle.types.specs.Read.{Place, place, Strings, strings, number_at, signed_at, run_at, text_at, natural, count_at, string_at, strings_at, listed, step_at, bytes_in}
+use Rattle.types.specs.Read.{Place, place, number_at, signed_at, run_at, text_at, natural, count_at, string_at, strings_at, step_at, bytes_in}
 use Rattle.types.specs.Private.Inside.{end_of}
 
 -- behind what was read, and behind what was refused
@@ -73,20 +73,6 @@ unfolding count_at
 count_read s at {room} h = then_tested room (to_z w32 (be (part s at 4))) (at + 4) past_end (λ z next. got (natural z) next) (signed_read 4 s at h w32)
 
 -- ---- strings, one behind the other
-
--- a list needs to know only where its strings end
-then_end : (a : Answer (List Place)) (v : Strings) → and_then a (λ ps next. got v next) ≡ and_then (end_of a) (λ u next. got v next)
-then_end (got ps next) v = refl
-then_end (refused n) v = refl
-
-module _ (s : List ℕ) (n start : ℕ) where
-  pub listed_end : {next : ℕ} → end_of (strings_at s n start) ≡ got tt next → listed s n start ≡ got (strings n start) next
-  unfolding listed
-  listed_end e = then_end (strings_at s n start) (strings n start) ∙ then_got (λ u next. got (strings n start) next) e
-
-  pub listed_refused : {e : Refusal} → end_of (strings_at s n start) ≡ refused e → listed s n start ≡ refused e
-  unfolding listed
-  listed_refused e = then_end (strings_at s n start) (strings n start) ∙ then_refused (λ u next. got (strings n start) next) e
 
 module _ (s : List ℕ) where
   -- the first is read: where the last ends does not depend on it

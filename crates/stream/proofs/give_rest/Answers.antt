@@ -6,11 +6,11 @@ use Rattle.stream.specs.declared.End.{End}
 use Rattle.stream.proofs.Turns.{used_up_lem, used_stopped, over_used}
 use Rattle.stream.proofs.give_rest.Goals as goal
 
-pub returns-in-Up : goal.returns-in-Up
-returns-in-Up c =
-    over_used (used_up_lem _ c.in-Up.is c.use_up.ensures)
+pub returns-in-Continue : goal.returns-in-Continue
+returns-in-Continue c =
+    over_used (used_up_lem _ c.in-Continue.is c.use_up.ensures)
     (ap (λ (n : Notes). tape_of n c.use_up.new.envelopes c.use_up.new.marks) c.at_end.ensures.0)
     (ap (λ (e : End). paper_end e c.use_up.new.segment c.use_up.new.reassembly) c.at_end.ensures.1)
 
-pub returns-in-Stopped : goal.returns-in-Stopped
-returns-in-Stopped c = used_stopped _ c.in-Stopped.is c.use_up.ensures
+pub returns-in-Break : goal.returns-in-Break
+returns-in-Break c = used_stopped _ c.in-Break.is c.use_up.ensures

@@ -7,8 +7,7 @@ use Rattle.stream.specs.Paper.{tape_of, paper_end}
 use Rattle.stream.specs.Private.Inside.{Way, Going, Onward, Over, Wants, left_to}
 use Rattle.stream.specs.declared.Collected.{Collected}
 use Rattle.stream.specs.declared.Progress.{Progress}
-use Rattle.stream.specs.declared.Turn.{Turn}
-use Rattle.stream.specs.declared.Used.{Used}
+use Rattle.std.proofs.Common.{ControlFlow, Continue, Break}
 
 abbrev pub way_of : Progress → List ℕ → List ℕ → List ℕ → List ℕ → Way
 way_of p segment reassembly envelopes marks =
@@ -31,10 +30,10 @@ pub record Answered (stream : List ℕ) (end : ℕ) (w v : Way) : Type 0 where
   pub less : left_to end v < left_to end w
   pub onward : Onward stream w v
 
-unfoldable pub UsedIs : Used → ℕ → List ℕ → Way → List ℕ → List ℕ → List ℕ → List ℕ → Type 0
-UsedIs (Used.Up p) end stream w segment reassembly envelopes marks = PieceUsed stream end w (way_of p segment reassembly envelopes marks)
-UsedIs (Used.Stopped c) end stream w segment reassembly envelopes marks = AllHeard c stream w segment reassembly envelopes marks
+unfoldable pub UsedIs : ControlFlow Collected Progress → ℕ → List ℕ → Way → List ℕ → List ℕ → List ℕ → List ℕ → Type 0
+UsedIs (Continue p) end stream w segment reassembly envelopes marks = PieceUsed stream end w (way_of p segment reassembly envelopes marks)
+UsedIs (Break c) end stream w segment reassembly envelopes marks = AllHeard c stream w segment reassembly envelopes marks
 
-unfoldable pub TurnIs : Turn → ℕ → List ℕ → Way → List ℕ → List ℕ → List ℕ → List ℕ → Type 0
-TurnIs (Turn.On p) end stream w segment reassembly envelopes marks = Answered stream end w (way_of p segment reassembly envelopes marks)
-TurnIs (Turn.Done u) end stream w segment reassembly envelopes marks = UsedIs u end stream w segment reassembly envelopes marks
+unfoldable pub TurnIs : ControlFlow (ControlFlow Collected Progress) Progress → ℕ → List ℕ → Way → List ℕ → List ℕ → List ℕ → List ℕ → Type 0
+TurnIs (Continue p) end stream w segment reassembly envelopes marks = Answered stream end w (way_of p segment reassembly envelopes marks)
+TurnIs (Break u) end stream w segment reassembly envelopes marks = UsedIs u end stream w segment reassembly envelopes marks
