@@ -49,7 +49,8 @@ pub fn put_reading<const N: usize>(
     }
 }
 
-// The words for enums are what the C side is told, and so are written out here and not taken from the order in which the enums' cases stand.
+// The words that stand for the cases of an enum are told to the C side, so they are written out, here and in `reader`, and do not follow from the order
+// in which the cases stand.
 
 // 1 is the long form, all else the short one.
 pub fn form(word: usize) -> Form {
