@@ -93,6 +93,7 @@ fn left_over(m: FrameDecoder, n: usize) -> Due
 }
 
 // The next envelope of a self-contained payload, where it stands in the middle of the segment buffer.
+#[inline]
 fn from_segment(m: FrameDecoder, segment: &[u8], len: usize, at: usize) -> Due
     requires { (at ≤ len) × (header_length (paper_form m.form) + len ≤ length segment.now) }
     ensures { paper_due result ≡ read_segment (paper_reader m) segment.now len at }
