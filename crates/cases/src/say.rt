@@ -19,7 +19,9 @@ pub struct Page {
 }
 
 impl Page {
-    pub fn new(stdout: Stdout) -> Page {
+    pub fn new(stdout: Stdout) -> Page
+        ensures { result.filled ≡ 0 }
+    {
         Page {
             bytes: [0; PAGE_LEN],
             filled: 0,

@@ -1,4 +1,9 @@
 // A stream reader with its buffers, and what is said of its answers.
+ghost use Rattle.std.specs.Prelude.{◌≡◌};
+ghost use Rattle.segment.specs.Paper.{paper_form};
+ghost use Rattle.frame_decoder.specs.Reader.{fresh, held};
+ghost use Rattle.frame_decoder.specs.Paper.{paper_reader};
+
 use crate::say::Page;
 use frame::Envelope;
 use frame_decoder::{Answer, Buffer, FrameDecoder};
@@ -22,7 +27,9 @@ pub struct Stream<const SEGMENT_LEN: usize, const REASSEMBLY_LEN: usize> {
 }
 
 impl<const SEGMENT_LEN: usize, const REASSEMBLY_LEN: usize> Stream<SEGMENT_LEN, REASSEMBLY_LEN> {
-    pub fn new(form: Form) -> Self {
+    pub fn new(form: Form) -> Self
+        ensures { paper_reader result.reader ≡ fresh (paper_form form) SEGMENT_LEN REASSEMBLY_LEN }
+    {
         Stream {
             reader: FrameDecoder::new(form, SEGMENT_LEN, REASSEMBLY_LEN),
             segment: [0; SEGMENT_LEN],
@@ -31,7 +38,9 @@ impl<const SEGMENT_LEN: usize, const REASSEMBLY_LEN: usize> Stream<SEGMENT_LEN, 
     }
 
     // How many bytes of an unfinished segment or envelope are held.
-    pub fn held(&self) -> usize {
+    pub fn held(&self) -> usize
+        ensures { result ≡ held (paper_reader self.now.reader) }
+    {
         self.reader.held()
     }
 

@@ -1,12 +1,17 @@
 // The words of a line, the items of a word, and what they stand for.
+ghost use Rattle.std.specs.Prelude.{◌≡◌, ◌≤◌, ◌==◌, IfSome, count_by, length};
 
 // The words of a line are counted from 0; word 0 names what is asked.
-pub fn word(line: &[u8], k: usize) -> Option<&[u8]> {
+pub fn word(line: &[u8], k: usize) -> Option<&[u8]>
+    ensures { IfSome result (λ w. length w.now ≤ length line.now) }
+{
     line.split(|byte| *byte == b' ').nth(k)
 }
 
 // How many words stand behind word 0.
-pub fn count(line: &[u8]) -> usize {
+pub fn count(line: &[u8]) -> usize
+    ensures { result ≡ count_by (λ b. b == 32) line.now }
+{
     line.iter().filter(|byte| **byte == b' ').count()
 }
 
