@@ -35,9 +35,6 @@ noted_both : (xs ys : List (Dated Said)) (t : Tape) → noted_all (xs ++ ys) t �
 noted_both [] ys t = refl
 noted_both (x ∷ xs) ys t = noted_both xs ys (noted (bytes_of x.what) (mark_of x.what) t)
 
-onward_same : (stream : List ℕ) (w : Way) → Onward stream w w
-onward_same stream w = record { handed = []; notes = refl; gives = λ xs c end t u. u }
-
 pub onward_then : {stream : List ℕ} {w v u : Way} → Onward stream w v → Onward stream v u → Onward stream w u
 onward_then {stream} {w} {v} {u} p q =
     record {
@@ -72,8 +69,7 @@ same_then p q =
       stream = q.stream ∙ p.stream;
       segment = q.segment ∙ p.segment;
       reassembly = q.reassembly ∙ p.reassembly;
-      envelopes = q.envelopes ∙ p.envelopes;
-      marks = q.marks ∙ p.marks;
+      outputs = record { envelopes = q.outputs.envelopes ∙ p.outputs.envelopes; marks = q.outputs.marks ∙ p.outputs.marks };
     }
 
 module _ {l m : Listener} {b c : Notebook} (p : Underway l m b c) where

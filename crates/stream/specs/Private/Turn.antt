@@ -29,8 +29,7 @@ pub record SameLent (l m : Listener) (b c : Notebook) : Type 0 where
   pub stream : m.stream ≡ l.stream
   pub segment : m.segment.ghost_name ≡ l.segment.ghost_name
   pub reassembly : m.reassembly.ghost_name ≡ l.reassembly.ghost_name
-  pub envelopes : c.envelopes.ghost_name ≡ b.envelopes.ghost_name
-  pub marks : c.marks.ghost_name ≡ b.marks.ghost_name
+  pub outputs : SameOutputs b c
 
 -- ---- what is left
 
