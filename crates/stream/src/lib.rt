@@ -114,7 +114,8 @@ impl Listener<'_> {
         let piece = &self.stream[self.taken..end];
         let heard = self.reader.consume(self.segment, self.reassembly, piece);
         self.taken += heard.taken;
-        match heard.answer? {
+        let answer = heard.answer?;
+        match answer {
             Answer::Envelope(buffer, place, _) => {
                 let bytes = self.part(buffer, place);
                 notebook.note(bytes, bytes.len() * 2);

@@ -26,21 +26,21 @@ pub overflow_add-self : goal.overflow_add-self
 overflow_add-self c = record { fits = omega (arith, turn_within c.requires (sym c.consume-heard.ensures)) }
 
 pub overflow_mul-n : goal.overflow_mul-n
-overflow_mul-n c = record { fits = omega (arith, leftover_small c.requires (answers c.consume-heard.result c.consume-heard.new.self c.consume-heard.ensures c.in_ok-buffer.was c.in-Leftover.is)) }
+overflow_mul-n c = record { fits = omega (arith, leftover_small c.requires (answers c.consume-heard.result c.consume-heard.new.self c.consume-heard.ensures c.in_ok-answer.was c.in-Leftover.is)) }
 
 pub overflow_add-n : goal.overflow_add-n
-overflow_add-n c = record { fits = omega (arith, leftover_small c.requires (answers c.consume-heard.result c.consume-heard.new.self c.consume-heard.ensures c.in_ok-buffer.was c.in-Leftover.is)) }
+overflow_add-n c = record { fits = omega (arith, leftover_small c.requires (answers c.consume-heard.result c.consume-heard.new.self c.consume-heard.ensures c.in_ok-answer.was c.in-Leftover.is)) }
 
 pub returns-in-Envelope-clause-turn : goal.returns-in-Envelope-clause-turn
-returns-in-Envelope-clause-turn c = envelope_turn c.requires (answers c.consume-heard.result c.consume-heard.new.self c.consume-heard.ensures c.in_ok-buffer.was c.in-Envelope.is) c.part-bytes.ensures c.note.ensures.tape
+returns-in-Envelope-clause-turn c = envelope_turn c.requires (answers c.consume-heard.result c.consume-heard.new.self c.consume-heard.ensures c.in_ok-answer.was c.in-Envelope.is) c.part-bytes.ensures c.note.ensures.tape
 
 pub returns-in-Leftover-clause-turn : goal.returns-in-Leftover-clause-turn
-returns-in-Leftover-clause-turn c = leftover_turn c.requires (answers c.consume-heard.result c.consume-heard.new.self c.consume-heard.ensures c.in_ok-buffer.was c.in-Leftover.is) c.note-in-Leftover.ensures.tape
+returns-in-Leftover-clause-turn c = leftover_turn c.requires (answers c.consume-heard.result c.consume-heard.new.self c.consume-heard.ensures c.in_ok-answer.was c.in-Leftover.is) c.note-in-Leftover.ensures.tape
 
 pub returns-in-More-clause-turn : goal.returns-in-More-clause-turn
-returns-in-More-clause-turn c = more_turn c.requires (answers c.consume-heard.result c.consume-heard.new.self c.consume-heard.ensures c.in_ok-buffer.was c.in-More.is)
+returns-in-More-clause-turn c = more_turn c.requires (answers c.consume-heard.result c.consume-heard.new.self c.consume-heard.ensures c.in_ok-answer.was c.in-More.is)
 
-pub returns-in_err-buffer-clause-turn : goal.returns-in_err-buffer-clause-turn
-returns-in_err-buffer-clause-turn c =
+pub returns-in_err-answer-clause-turn : goal.returns-in_err-answer-clause-turn
+returns-in_err-answer-clause-turn c =
     let p = err_from_is_err_and c.from_residual.result c.from_residual.ensures.1 in
-    rw (p.1, p.2) (refused_turn c.requires (comes c.consume-heard.result c.consume-heard.new.self c.consume-heard.ensures c.in_err-buffer.was))
+    rw (p.1, p.2) (refused_turn c.requires (comes c.consume-heard.result c.consume-heard.new.self c.consume-heard.ensures c.in_err-answer.was))
