@@ -22,28 +22,18 @@ use Rattle.stream.specs.Meaning.{Said, envelope_of, leftover_of, Meaning}
 use Rattle.stream.specs.Caller.{State, state, step_of, reads, holds, start, heard_of}
 use Rattle.stream.specs.Collect.{bytes_of, mark_of, Tape, blank, noted, collected, Ending, refused_end, held_end, end_of, HeardAs}
 use Rattle.stream.specs.Private.Inside.{Way, Going, noted_all, Onward, ending_of, Over, ahead}
-use Rattle.stream.specs.Private.Turn.{way_of, AllHeard, PieceUsed, Answered, TurnIs, UsedIs}
-use Rattle.stream.specs.declared.Collected.{Collected}
-use Rattle.stream.specs.declared.Progress.{Progress}
-use Rattle.std.proofs.Common.{ControlFlow, Continue, Break}
+use Rattle.stream.specs.Private.Turn.{way_of, SameLent, PieceUsed, Answered}
+use Rattle.stream.specs.declared.Listener.{Listener}
+use Rattle.stream.specs.declared.Notebook.{Notebook}
 use Rattle.stream.proofs.Calls.{Called, called}
 use Rattle.stream.proofs.Longer.{call_waiting}
 use Rattle.stream.proofs.Pieces.{reader, lawful, fresh_ready, fresh_rest, heard_none, out_of_range}
-
-abbrev pub Used : Type 0
-Used = ControlFlow Collected Progress
-
-abbrev pub Turn : Type 0
-Turn = ControlFlow Used Progress
 
 -- ---- ways on
 
 noted_both : (xs ys : List (Dated Said)) (t : Tape) → noted_all (xs ++ ys) t ≡ noted_all ys (noted_all xs t)
 noted_both [] ys t = refl
 noted_both (x ∷ xs) ys t = noted_both xs ys (noted (bytes_of x.what) (mark_of x.what) t)
-
-onward_same : (stream : List ℕ) (w : Way) → Onward stream w w
-onward_same stream w = record { handed = []; notes = refl; gives = λ xs c end t u. u }
 
 pub onward_then : {stream : List ℕ} {w v u : Way} → Onward stream w v → Onward stream v u → Onward stream w u
 onward_then {stream} {w} {v} {u} p q =
@@ -54,19 +44,6 @@ onward_then {stream} {w} {v} {u} p q =
           λ xs c end t g. subst (λ (l : List (Dated Said)). Uses reads w.at w.taken (drop w.taken stream) l c end t) (sym (append_assoc p.handed q.handed xs))
           (p.gives (q.handed ++ xs) c end t (q.gives xs c end t g));
     }
-
--- the segment buffer, the reassembly buffer, the output of envelopes and that of marks are as long as they were
-abbrev pub SameLengths : List ℕ → List ℕ → List ℕ → List ℕ → List ℕ → List ℕ → List ℕ → List ℕ → Type 0
-SameLengths s r e m s' r' e' m' = (length s' ≡ length s) × (length r' ≡ length r) × (length e' ≡ length e) × (length m' ≡ length m)
-
--- what each loop keeps: from where it set out to where it is
-pub record Underway (stream : List ℕ) (w v : Way) : Type 0 where
-  pub lengths : SameLengths w.at.segment w.at.reassembly w.tape.envelopes w.tape.marks v.at.segment v.at.reassembly v.tape.envelopes v.tape.marks
-  pub going : Going stream v
-  pub onward : Onward stream w v
-
-pub underway_first : {stream : List ℕ} {w : Way} → Going stream w → Underway stream w w
-underway_first g = record { lengths = (refl, refl, refl, refl); going = g; onward = onward_same _ _ }
 
 pub onward_over : {stream : List ℕ} {w v : Way} {t : Tape} {e : Ending} {S R : List ℕ} → Onward stream w v → Over stream v t e S R → Over stream w t e S R
 onward_over {w = w} {S = S} {R = R} p q =
@@ -79,6 +56,34 @@ onward_over {w = w} {S = S} {R = R} p q =
       notes = q.notes ∙ ap (noted_all q.handed) p.notes ∙ sym (noted_both p.handed q.handed w.tape);
       ends = q.ends;
     }
+
+-- what each loop keeps: from where it set out to where it is
+pub record Underway (l m : Listener) (b c : Notebook) : Type 0 where
+  pub same : SameLent l m b c
+  pub going : Going m.stream.now (way_of m c)
+  pub onward : Onward l.stream.now (way_of l b) (way_of m c)
+
+same_then : {l m n : Listener} {b c d : Notebook} → SameLent l m b c → SameLent m n c d → SameLent l n b d
+same_then p q =
+    record {
+      stream = q.stream ∙ p.stream;
+      segment = q.segment ∙ p.segment;
+      reassembly = q.reassembly ∙ p.reassembly;
+      outputs = record { envelopes = q.outputs.envelopes ∙ p.outputs.envelopes; marks = q.outputs.marks ∙ p.outputs.marks };
+    }
+
+module _ {l m : Listener} {b c : Notebook} (p : Underway l m b c) where
+  pub underway_then : {n : Listener} {d : Notebook} → SameLent m n c d → Going m.stream.now (way_of n d) → Onward m.stream.now (way_of m c) (way_of n d) → Underway l n b d
+  underway_then same going onward = record { same = same_then p.same same; going = rw same.stream going; onward = onward_then p.onward (rw (sym p.same.stream) onward) }
+
+  -- the end of what is left from there is the end of all
+  pub underway_over : {t : Tape} {e : Ending} {S R : List ℕ} → Over m.stream.now (way_of m c) t e S R → Over l.stream.now (way_of l b) t e S R
+  underway_over over = onward_over p.onward (rw (sym p.same.stream) over)
+
+  pub underway_used : {end : ℕ} {v : Way} → PieceUsed m.stream.now end (way_of m c) v → PieceUsed l.stream.now end (way_of l b) v
+  underway_used {end} {v} used =
+      let u : PieceUsed l.stream.now end (way_of m c) v = rw (sym p.same.stream) used in
+      record { going = u.going; all = u.all; wants = u.wants; onward = onward_then p.onward u.onward }
 
 -- ---- a call
 
@@ -181,31 +186,6 @@ module _ {stream : List ℕ} {end : ℕ} {w : Way} (asked : Going stream w × (w
           ends = refl;
         }
 
--- ---- what a turn means, and a piece that was given, by what it came to
-
-module _ (end : ℕ) {stream : List ℕ} {w : Way} {S R E M : List ℕ} where
-  pub turn_on : {y : Turn} {p : Progress} → y ≡ Continue p → TurnIs y end stream w S R E M → Answered stream end w (way_of p S R E M)
-  unfolding TurnIs
-  turn_on is m = subst (λ (x : Turn). TurnIs x end stream w S R E M) is m
-
-  pub used_up_lem : {y : Used} {p : Progress} → y ≡ Continue p → UsedIs y end stream w S R E M → PieceUsed stream end w (way_of p S R E M)
-  unfolding UsedIs
-  used_up_lem is m = subst (λ (x : Used). UsedIs x end stream w S R E M) is m
-
-  pub used_stopped : {y : Used} {c : Collected} → y ≡ Break c → UsedIs y end stream w S R E M → AllHeard c stream w S R E M
-  unfolding UsedIs
-  used_stopped is m = subst (λ (x : Used). UsedIs x end stream w S R E M) is m
-
--- what was handed on before comes first
-used_then : (u : Used) {stream : List ℕ} {w v : Way} (end : ℕ) (S R E M : List ℕ) → Onward stream w v → UsedIs u end stream v S R E M → UsedIs u end stream w S R E M
-unfolding UsedIs
-used_then (Continue p) end S R E M o m = record { going = m.going; all = m.all; wants = m.wants; onward = onward_then o m.onward }
-used_then (Break c) end S R E M o m = onward_over o m
-
-pub turn_done : {y : Turn} {u : Used} {stream : List ℕ} {w v : Way} (end : ℕ) (S R E M : List ℕ) → Onward stream w v → y ≡ Break u → TurnIs y end stream v S R E M → UsedIs u end stream w S R E M
-unfolding TurnIs
-turn_done {u = u} {stream} {v = v} end S R E M o is m = used_then u end S R E M o (subst (λ (x : Turn). TurnIs x end stream v S R E M) is m)
-
 -- ---- the end
 
 -- nothing more comes, and what is held is told
@@ -238,8 +218,8 @@ module _ {stream : List ℕ} {w v : Way} (used : PieceUsed stream (length stream
       none_handed f p (in_reassembly at) w = absurd (omega arith)
       none_handed f p (stopped why) w = absurd (omega arith)
 
-  pub over_used : {t : Tape} {e : Ending} → t ≡ v.tape → e ≡ held_end (counts_of r).there (take (counts_of r).there seg) r.pending (take r.pending re) → Over stream w t e seg re
-  over_used p q =
+  pub over_used : Over stream w v.tape (held_end (counts_of r).there (take (counts_of r).there seg) r.pending (take r.pending re)) seg re
+  over_used =
       onward_over used.onward
       record {
         handed = [];
@@ -249,8 +229,8 @@ module _ {stream : List ℕ} {w v : Way} (used : PieceUsed stream (length stream
         gives =
             subst (λ (l : List ℕ). Uses reads v.at v.taken l [] used_up (v.taken + 0) v.at) (sym none_left)
             (by_more (ap step_of (call_waiting r seg re used.going.ready used.wants)));
-        notes = p;
-        ends = q ∙ held_end_lem;
+        notes = refl;
+        ends = held_end_lem;
       }
 
 -- ---- the start
@@ -295,12 +275,13 @@ module _ {f : Form} {seg re stream envelopes marks : List ℕ} where
     pub start_going : Going stream (first x seg re envelopes marks)
     start_going = subst (λ (y : Reader). Going stream (first y seg re envelopes marks)) (sym new) record { ready = fresh_ready f seg re range; untouched = tt; within = omega arith }
 
-    pub start_over : {t : Tape} {e : Ending} {S R : List ℕ} → Over stream (first x seg re envelopes marks) t e S R → HeardAs f seg re stream envelopes marks t e S R
-    start_over {t} {e} {S} {R} over =
+    -- what is left at the end is what was lent
+    pub start_over : {t t' : Tape} {e e' : Ending} {S R S' R' : List ℕ} → Over stream (first x seg re envelopes marks) t e S R → t' ≡ t → e' ≡ e → S' ≡ S → R' ≡ R → HeardAs f seg re stream envelopes marks t' e' S' R'
+    start_over {t} {t'} {e} {e'} {S} {R} {S'} {R'} over same-tape same-end same-segment same-reassembly =
         let o = subst (λ (y : Reader). Over stream (first y seg re envelopes marks) t e S R) new over in
         let last : State = state o.reader S R in
         let same : heard_of f (length seg) (length re) stream ≡ saying o.handed (closing o.close o.taken last) = closes f seg re stream range o.close (told reader lawful (fresh_ready f seg re range) o.gives) in
-        record {
+        rw (same-tape, same-end, same-segment, same-reassembly) record {
           tells =
               o.notes
               ∙ sym (ap (λ (m : Meaning). collected m (blank envelopes marks)) same

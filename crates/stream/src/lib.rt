@@ -3,20 +3,19 @@
 #![tactic(auto)]
 
 ghost use Rattle.std.specs.Prelude.{◌≡◌, ◌+◌, ◌≤◌, min, length};
+ghost use Rattle.types.specs.Paper.{place_of};
 ghost use Rattle.segment.specs.Paper.{paper_form};
-ghost use Rattle.frame_decoder.specs.Reader.{counts_of};
-ghost use Rattle.frame_decoder.specs.Paper.{paper_reader};
+ghost use Rattle.frame_decoder.specs.Reader.{bytes_at};
+ghost use Rattle.frame_decoder.specs.Paper.{paper_buffer};
 ghost use Rattle.stream.specs.Collect.{noted, HeardAs};
 ghost use Rattle.stream.specs.Paper.{tape_of, paper_end};
 ghost use Rattle.stream.specs.Private.Inside.{Going};
-ghost use Rattle.stream.specs.declared.End.{End};
-ghost use Rattle.stream.specs.Private.Turn.{way_of, AllHeard, TurnIs, UsedIs};
+ghost use Rattle.stream.specs.Private.Turn.{tape_in, SameOutputs, way_of, SameLent, TurnIs, UsedIs};
 
-use frame_decoder::{Answer, FrameDecoder, Step, in_range, part};
+use frame_decoder::{Answer, Buffer, FrameDecoder, in_range, part};
 use refusal::Refusal;
 use segment::Form;
-use std::ops::ControlFlow;
-use types::inner;
+use types::{Place, inner};
 
 // How many answers were written down, how many bytes of envelopes, and whether that is all.
 #[derive(Clone, Copy, Debug, PartialEq, Eq)]
@@ -42,117 +41,44 @@ pub struct Collected {
 
 // ---- writing down
 
-// An answer's bytes behind those before, and its mark.
-#[tactic(auto, unfolding(crate::specs::Collect::noted))]
-fn note(notes: Notes, envelopes: &mut [u8], marks: &mut [usize], bytes: &[u8], mark: usize) -> Notes
-    ensures { tape_of result envelopes.new marks.new ≡ noted bytes.now mark (tape_of notes envelopes.old marks.old) }
-{
-    let Notes {
-        answers,
-        bytes: count,
-        complete,
-    } = notes;
-    if complete && answers < marks.len() && inner::room(envelopes.len(), count, bytes.len()) {
-        marks[answers] = mark;
-        inner::put_bytes(envelopes, count, bytes);
-        Notes {
-            answers: answers + 1,
-            bytes: count + bytes.len(),
-            complete: true,
-        }
-    } else {
-        Notes {
-            complete: false,
-            ..notes
+// The two outputs, and how much is written down there.
+#[derive(Drop)]
+struct Notebook<'a> {
+    notes: Notes,
+    envelopes: &'a mut [u8],
+    marks: &'a mut [usize],
+}
+
+impl Notebook<'_> {
+    // An answer's bytes behind those before, and its mark.
+    #[tactic(auto, unfolding(crate::specs::Collect::noted))]
+    fn note(&mut self, bytes: &[u8], mark: usize)
+        ensures tape { tape_in self.new ≡ noted bytes.now mark (tape_in self.old) }
+        ensures same_outputs { SameOutputs self.old self.new }
+    {
+        let Notes {
+            answers,
+            bytes: count,
+            complete,
+        } = self.notes;
+        if complete
+            && answers < self.marks.len()
+            && inner::room(self.envelopes.len(), count, bytes.len())
+        {
+            self.marks[answers] = mark;
+            inner::put_bytes(self.envelopes, count, bytes);
+            self.notes = Notes {
+                answers: answers + 1,
+                bytes: count + bytes.len(),
+                complete: true,
+            };
+        } else {
+            self.notes.complete = false;
         }
     }
 }
 
 // ---- the loop
-
-// A caller on its way: the reader, how many bytes of the stream were taken, and what was written down.
-#[derive(Clone, Copy)]
-struct Progress {
-    reader: FrameDecoder,
-    taken: usize,
-    notes: Notes,
-}
-
-// What a piece leaves: it is used up, or the reader has stopped.
-type Used = ControlFlow<Collected, Progress>;
-
-// What one call leaves: another answer to hear, or what its piece leaves.
-type Turn = ControlFlow<Used, Progress>;
-
-// One call with the bytes of the stream up to end.
-fn hear(
-    p: Progress,
-    end: usize,
-    segment: &mut [u8],
-    reassembly: &mut [u8],
-    stream: &[u8],
-    envelopes: &mut [u8],
-    marks: &mut [usize],
-) -> Turn
-    requires { Going stream.now (way_of p segment.old reassembly.old envelopes.old marks.old) × (p.taken ≤ end) × (end ≤ length stream.now) }
-    ensures { TurnIs result end stream.now (way_of p segment.old reassembly.old envelopes.old marks.old) segment.new reassembly.new envelopes.new marks.new }
-{
-    let at = p.taken;
-    let Step { reader, heard } = p.reader.read(segment, reassembly, &stream[at..end]);
-    let taken = at + heard.taken;
-    let answer = match heard.answer {
-        Ok(answer) => answer,
-        Err(e) => {
-            let end = End::Refused(e, taken);
-            return ControlFlow::Break(ControlFlow::Break(Collected {
-                notes: p.notes,
-                end,
-            }));
-        }
-    };
-    match answer {
-        Answer::Envelope(buffer, place, _) => {
-            let bytes = part(buffer, segment, reassembly, place);
-            let notes = note(p.notes, envelopes, marks, bytes, bytes.len() * 2);
-            ControlFlow::Continue(Progress {
-                reader,
-                taken,
-                notes,
-            })
-        }
-        Answer::Leftover(n) => {
-            let notes = note(p.notes, envelopes, marks, &[], n * 2 + 1);
-            ControlFlow::Continue(Progress {
-                reader,
-                taken,
-                notes,
-            })
-        }
-        Answer::More => ControlFlow::Break(ControlFlow::Continue(Progress { reader, taken, ..p })),
-    }
-}
-
-// Calls with what is left of the piece that ends there, until it is used up or the reader stops.
-fn use_up(
-    start: Progress,
-    end: usize,
-    segment: &mut [u8],
-    reassembly: &mut [u8],
-    stream: &[u8],
-    envelopes: &mut [u8],
-    marks: &mut [usize],
-) -> Used
-    requires { Going stream.now (way_of start segment.old reassembly.old envelopes.old marks.old) × (start.taken ≤ end) × (end ≤ length stream.now) }
-    ensures { UsedIs result end stream.now (way_of start segment.old reassembly.old envelopes.old marks.old) segment.new reassembly.new envelopes.new marks.new }
-{
-    let mut p = start;
-    loop {
-        match hear(p, end, segment, reassembly, stream, envelopes, marks) {
-            ControlFlow::Continue(next) => p = next,
-            ControlFlow::Break(used) => return used,
-        }
-    }
-}
 
 // Where a piece of cut bytes ends, or the stream.
 fn piece_end(taken: usize, cut: usize, len: usize) -> usize
@@ -162,64 +88,69 @@ fn piece_end(taken: usize, cut: usize, len: usize) -> usize
     if cut <= len - taken { taken + cut } else { len }
 }
 
-// The reader waits, and nothing more comes.
-fn at_end(p: Progress) -> Collected
-    ensures { (result.notes ≡ p.notes) × (result.end ≡ End.Held (counts_of (paper_reader p.reader)).there p.reader.pending) }
-{
-    Collected {
-        notes: p.notes,
-        end: End::Held(p.reader.filled(), p.reader.pending),
-    }
+// A reader on its way through a stream, the two buffers that it is lent, and how many bytes were taken.
+#[derive(Drop)]
+struct Listener<'a> {
+    reader: FrameDecoder,
+    segment: &'a mut [u8],
+    reassembly: &'a mut [u8],
+    stream: &'a [u8],
+    taken: usize,
 }
 
-// All that is left of the stream as one piece.
-fn give_rest(
-    p: Progress,
-    segment: &mut [u8],
-    reassembly: &mut [u8],
-    stream: &[u8],
-    envelopes: &mut [u8],
-    marks: &mut [usize],
-) -> Collected
-    requires { Going stream.now (way_of p segment.old reassembly.old envelopes.old marks.old) }
-    ensures { AllHeard result stream.now (way_of p segment.old reassembly.old envelopes.old marks.old) segment.new reassembly.new envelopes.new marks.new }
-{
-    match use_up(
-        p,
-        stream.len(),
-        segment,
-        reassembly,
-        stream,
-        envelopes,
-        marks,
-    ) {
-        ControlFlow::Continue(last) => at_end(last),
-        ControlFlow::Break(all) => all,
+impl Listener<'_> {
+    fn part(&self, buffer: Buffer, place: Place) -> &[u8]
+        ensures { result.now ≡ bytes_at (paper_buffer buffer) self.now.segment.now self.now.reassembly.now (place_of place) }
+    {
+        part(buffer, self.segment, self.reassembly, place)
     }
-}
 
-// Piece by piece as cut, and then the rest.
-fn give(
-    start: Progress,
-    segment: &mut [u8],
-    reassembly: &mut [u8],
-    stream: &[u8],
-    cuts: &[usize],
-    envelopes: &mut [u8],
-    marks: &mut [usize],
-) -> Collected
-    requires { Going stream.now (way_of start segment.old reassembly.old envelopes.old marks.old) }
-    ensures { AllHeard result stream.now (way_of start segment.old reassembly.old envelopes.old marks.old) segment.new reassembly.new envelopes.new marks.new }
-{
-    let mut p = start;
-    for &cut in cuts {
-        let end = piece_end(p.taken, cut, stream.len());
-        match use_up(p, end, segment, reassembly, stream, envelopes, marks) {
-            ControlFlow::Continue(next) => p = next,
-            ControlFlow::Break(all) => return all,
+    // One call with the bytes of the stream up to end: whether it answered, so that another answer may come of them.
+    fn hear(&mut self, end: usize, notebook: &mut Notebook) -> Result<bool, Refusal>
+        requires { Going self.old.stream.now (way_of self.old notebook.old) × (self.old.taken ≤ end) × (end ≤ length self.old.stream.now) }
+        ensures turn { TurnIs result end self.old.stream.now (way_of self.old notebook.old) (way_of self.new notebook.new) }
+        ensures same_lent { SameLent self.old self.new notebook.old notebook.new }
+    {
+        let piece = &self.stream[self.taken..end];
+        let heard = self.reader.consume(self.segment, self.reassembly, piece);
+        self.taken += heard.taken;
+        let answer = heard.answer?;
+        match answer {
+            Answer::Envelope(buffer, place, _) => {
+                let bytes = self.part(buffer, place);
+                notebook.note(bytes, bytes.len() * 2);
+                Ok(true)
+            }
+            Answer::Leftover(n) => {
+                notebook.note(&[], n * 2 + 1);
+                Ok(true)
+            }
+            Answer::More => Ok(false),
         }
     }
-    give_rest(p, segment, reassembly, stream, envelopes, marks)
+
+    // Calls with what is left of the piece that ends there, until it is used up or the reader stops.
+    fn use_up(&mut self, end: usize, notebook: &mut Notebook) -> Result<(), Refusal>
+        requires { Going self.old.stream.now (way_of self.old notebook.old) × (self.old.taken ≤ end) × (end ≤ length self.old.stream.now) }
+        ensures used { UsedIs result end self.old.stream.now (way_of self.old notebook.old) (way_of self.new notebook.new) }
+        ensures same_lent { SameLent self.old self.new notebook.old notebook.new }
+    {
+        while self.hear(end, notebook)? {}
+        Ok(())
+    }
+
+    // Piece by piece as cut, and then the rest.
+    fn give(&mut self, cuts: &[usize], notebook: &mut Notebook) -> Result<(), Refusal>
+        requires { Going self.old.stream.now (way_of self.old notebook.old) }
+        ensures used { UsedIs result (length self.old.stream.now) self.old.stream.now (way_of self.old notebook.old) (way_of self.new notebook.new) }
+        ensures same_lent { SameLent self.old self.new notebook.old notebook.new }
+    {
+        for &cut in cuts {
+            let end = piece_end(self.taken, cut, self.stream.len());
+            self.use_up(end, notebook)?;
+        }
+        self.use_up(self.stream.len(), notebook)
+    }
 }
 
 // Gives the stream to a fresh reader over the two buffers, cut into pieces of these lengths (and what is left at the end), each used up, and writes down what comes:
@@ -245,10 +176,24 @@ pub fn collect(
         let end = End::Refused(Refusal::Inadmissible, 0);
         return Collected { notes, end };
     }
-    let start = Progress {
+    let mut listener = Listener {
         reader: FrameDecoder::new(form, segment.len(), reassembly.len()),
+        segment,
+        reassembly,
+        stream,
         taken: 0,
-        notes,
     };
-    give(start, segment, reassembly, stream, cuts, envelopes, marks)
+    let mut notebook = Notebook {
+        notes,
+        envelopes,
+        marks,
+    };
+    let end = match listener.give(cuts, &mut notebook) {
+        Ok(()) => End::Held(listener.reader.filled(), listener.reader.pending),
+        Err(e) => End::Refused(e, listener.taken),
+    };
+    Collected {
+        notes: notebook.notes,
+        end,
+    }
 }

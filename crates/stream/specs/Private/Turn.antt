@@ -1,21 +1,37 @@
 -- What only the contracts of functions inside this crate cite, and proofs. No public promise speaks of it: a reader of the promises need not believe it.
 -- What the turns of the caller's loop leave. Assumes nothing.
-use Rattle.std.specs.Prelude.{ℕ, ◌≤◌, ◌<◌, ◌≡◌, List}
+use Rattle.std.specs.Prelude.{ℕ, Bool, ◌≤◌, ◌<◌, ◌≡◌, List, Result, MatchBool, MatchResult}
+use Rattle.refusal.specs.Refusal.{paper_refusal}
+use Rattle.refusal.specs.declared.Refusal.{Refusal}
 use Rattle.frame_decoder.specs.Paper.{paper_reader}
 use Rattle.stream.specs.Caller.{state}
-use Rattle.stream.specs.Paper.{tape_of, paper_end}
+use Rattle.stream.specs.Collect.{Tape, refused_end}
+use Rattle.stream.specs.Paper.{tape_of}
 use Rattle.stream.specs.Private.Inside.{Way, Going, Onward, Over, Wants, left_to}
-use Rattle.stream.specs.declared.Collected.{Collected}
-use Rattle.stream.specs.declared.Progress.{Progress}
-use Rattle.std.proofs.Common.{ControlFlow, Continue, Break}
+use Rattle.stream.specs.declared.Notebook.{Notebook}
+use Rattle.stream.specs.declared.Listener.{Listener}
 
-abbrev pub way_of : Progress → List ℕ → List ℕ → List ℕ → List ℕ → Way
-way_of p segment reassembly envelopes marks =
-    record { at = state (paper_reader p.reader) segment reassembly; taken = p.taken; tape = tape_of p.notes envelopes marks }
+-- ---- what is lent
 
--- all is heard
-abbrev pub AllHeard : Collected → List ℕ → Way → List ℕ → List ℕ → List ℕ → List ℕ → Type 0
-AllHeard c stream w segment reassembly envelopes marks = Over stream w (tape_of c.notes envelopes marks) (paper_end c.end segment reassembly) segment reassembly
+abbrev pub tape_in : Notebook → Tape
+tape_in b = tape_of b.notes b.envelopes.now b.marks.now
+
+-- both write to the same outputs
+pub record SameOutputs (b c : Notebook) : Type 0 where
+  pub envelopes : c.envelopes.ghost_name ≡ b.envelopes.ghost_name
+  pub marks : c.marks.ghost_name ≡ b.marks.ghost_name
+
+abbrev pub way_of : Listener → Notebook → Way
+way_of l b = record { at = state (paper_reader l.reader) l.segment.now l.reassembly.now; taken = l.taken; tape = tape_in b }
+
+-- the same stream, buffers and outputs are lent to both
+pub record SameLent (l m : Listener) (b c : Notebook) : Type 0 where
+  pub stream : m.stream ≡ l.stream
+  pub segment : m.segment.ghost_name ≡ l.segment.ghost_name
+  pub reassembly : m.reassembly.ghost_name ≡ l.reassembly.ghost_name
+  pub outputs : SameOutputs b c
+
+-- ---- what is left
 
 -- the piece that ends there is used up
 pub record PieceUsed (stream : List ℕ) (end : ℕ) (w v : Way) : Type 0 where
@@ -30,10 +46,12 @@ pub record Answered (stream : List ℕ) (end : ℕ) (w v : Way) : Type 0 where
   pub less : left_to end v < left_to end w
   pub onward : Onward stream w v
 
-unfoldable pub UsedIs : ControlFlow Collected Progress → ℕ → List ℕ → Way → List ℕ → List ℕ → List ℕ → List ℕ → Type 0
-UsedIs (Continue p) end stream w segment reassembly envelopes marks = PieceUsed stream end w (way_of p segment reassembly envelopes marks)
-UsedIs (Break c) end stream w segment reassembly envelopes marks = AllHeard c stream w segment reassembly envelopes marks
+-- the reader has stopped there
+abbrev pub StoppedAt : Refusal → List ℕ → Way → Way → Type 0
+StoppedAt why stream w v = Over stream w v.tape (refused_end (paper_refusal why) v.taken) v.at.segment v.at.reassembly
 
-unfoldable pub TurnIs : ControlFlow (ControlFlow Collected Progress) Progress → ℕ → List ℕ → Way → List ℕ → List ℕ → List ℕ → List ℕ → Type 0
-TurnIs (Continue p) end stream w segment reassembly envelopes marks = Answered stream end w (way_of p segment reassembly envelopes marks)
-TurnIs (Break u) end stream w segment reassembly envelopes marks = UsedIs u end stream w segment reassembly envelopes marks
+abbrev pub UsedIs : Result (Unit {0}) Refusal → ℕ → List ℕ → Way → Way → Type 0
+UsedIs r end stream w v = MatchResult r (λ _. PieceUsed stream end w v) (λ why. StoppedAt why stream w v)
+
+abbrev pub TurnIs : Result Bool Refusal → ℕ → List ℕ → Way → Way → Type 0
+TurnIs r end stream w v = MatchResult r (λ more. MatchBool more (Answered stream end w v) (PieceUsed stream end w v)) (λ why. StoppedAt why stream w v)
