@@ -93,6 +93,7 @@ fn envelope_with(size: usize, header: Header, warnings: Walk, at: usize) -> Enve
 }
 
 // From where the tracing id ends.
+#[tactic(auto, using(crate::proofs::Ends::warnings_end))]
 fn read_rest(bytes: &[u8], header: Header, at: usize) -> Result<Envelope, Refusal>
     requires { at ≤ length bytes.now }
     ensures { paper_whole result ≡ read_as (length bytes.now) (paper_header header) (warnings_at bytes.now (paper_header header) at) }

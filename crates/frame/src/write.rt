@@ -59,6 +59,7 @@ fn id_size(header: Header, id: usize) -> usize
     if head::has_id(header) { id } else { 0 }
 }
 
+#[tactic(auto, using(crate::proofs::Capped::capped_plus, crate::proofs::Capped::capped_small), unfolding(crate::specs::Private::Inside::warnings_size))]
 fn warnings_size(header: Header, text: usize, count: usize) -> usize
     ensures { result ≡ capped (warnings_size (paper_header header) text count) }
 {
@@ -70,6 +71,7 @@ fn warnings_size(header: Header, text: usize, count: usize) -> usize
 }
 
 // The declared length, by the lengths of what is given.
+#[tactic(auto, using(crate::proofs::Capped::capped_plus), unfolding(crate::specs::Private::Inside::tail_size))]
 fn tail_size(header: Header, id: usize, text: usize, count: usize, body: usize) -> usize
     ensures { result ≡ capped (tail_size (paper_header header) id text count body) }
 {
@@ -112,7 +114,7 @@ fn put_header(out: &mut [u8], header: Header, n: usize)
 }
 
 // The tracing id, where it is written; the position behind it.
-#[tactic(auto, unfolding(crate::specs::Write::id_part))]
+#[tactic(auto, using(crate::proofs::Checked::id_is, crate::proofs::Laid::part_none), unfolding(crate::specs::Write::id_part))]
 fn put_id(out: &mut [u8], at: usize, header: Header, id: &[u8]) -> usize
     requires { at + length (id_part (paper_header header) id.now) ≤ length out.old }
     ensures { (result ≡ at + length (id_part (paper_header header) id.now)) × (out.new ≡ put out.old at (id_part (paper_header header) id.now)) }
@@ -125,7 +127,7 @@ fn put_id(out: &mut [u8], at: usize, header: Header, id: &[u8]) -> usize
 }
 
 // The warnings, where they are written; the position behind them.
-#[tactic(auto, unfolding(crate::specs::Write::warnings_part))]
+#[tactic(auto, using(types::proofs::Cut::writes, types::proofs::Cut::list_length, crate::proofs::Checked::check_is, crate::proofs::Checked::list_is, crate::proofs::Laid::part_there, crate::proofs::Laid::part_none))]
 fn put_warnings(out: &mut [u8], at: usize, header: Header, text: &[u8], lens: &[usize]) -> usize
     requires { (warnings_check (paper_header header) text.now lens.now ≡ fine) × (at + length (warnings_part (paper_header header) text.now lens.now) ≤ length out.old) }
     ensures { (result ≡ at + length (warnings_part (paper_header header) text.now lens.now)) × (out.new ≡ put out.old at (warnings_part (paper_header header) text.now lens.now)) }
@@ -159,6 +161,7 @@ fn put_envelope(
 }
 
 // An envelope with these fields. The id is written where the header has one, the warnings where it has the flag, and what is not written is not looked at.
+#[tactic(auto, using(types::proofs::Put::wrote_fine, types::proofs::Put::wrote_against, crate::proofs::Capped::capped_within, crate::proofs::Capped::capped_past, crate::proofs::Checked::head_unfit, crate::proofs::Checked::body_long, crate::proofs::Checked::warnings_unfit, crate::proofs::Checked::all_fit))]
 pub fn write_envelope(out: &mut [u8], header: Header, content: Content) -> Result<usize, Refusal>
     ensures { Wrote (envelope_check (paper_header header) (paper_content content.entry)) out.old 0 (envelope_bytes (paper_header header) (paper_content content.entry)) (paper_written result) out.new }
 {

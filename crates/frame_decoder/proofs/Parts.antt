@@ -6,12 +6,17 @@ use native.Mathlib.Nat.{le_of_eq, zero-add}
 use native.Mathlib.Omega.{arith}
 use lib.ListN.{length, take, drop, length-drop, drop_of_length-le}
 use lib.Seq.{length-take-le, take_all, take-take, drop-drop}
+use Rattle.std.specs.Prelude as std
 use Rattle.basis.specs.Front.{Front, whole}
 use Rattle.basis.proofs.Fronts.{not_whole, refused_not_whole}
 use Rattle.refusal.specs.Refusal.{Refusal}
 use Rattle.types.specs.Number.{part}
 use Rattle.types.specs.Write.{put}
 use Rattle.types.proofs.Steady.{part_same}
+use Rattle.frame.specs.Envelope.{envelope}
+use Rattle.frame.specs.Paper.{paper_reading}
+use Rattle.frame.specs.declared.Envelope as code
+use Rattle.frame.proofs.Bounds.{within_bytes}
 use Rattle.segment.specs.Header.{Form, Header, header_length}
 use Rattle.segment.specs.Segment.{Segment, segment_length, behind, payload_at}
 use Rattle.segment.proofs.Cases.{Payloads, payload_cut, payload_differs, payload_good, payload_case}
@@ -48,3 +53,9 @@ whole_there f s h {g} e = go (payload_case f s h) e
 -- its payload stands in the buffer
 pub whole_payload : (f : Form) (s : List ℕ) (n : ℕ) (h : Header) → n ≤ length s → payload_at f (take n s) h ≡ whole (behind f (take n s) h) → part (take n s) (header_length f) h.payload ≡ part s (header_length f) h.payload
 whole_payload f s n h room e = part_taken s n (header_length f) h.payload (omega (arith, whole_there f (take n s) h e, length-take-le n s room)) room
+
+-- ---- an envelope that was read
+
+-- it ends within the bytes that it was read from
+pub read_within : (s : List ℕ) {o : std.Option code.Envelope} {e : code.Envelope} → paper_reading (std.Ok o) ≡ envelope s → o ≡ std.Some e → e.size ≤ length s
+read_within s said is = within_bytes s (sym said ∙ ap (λ o. paper_reading (std.Ok o)) is)

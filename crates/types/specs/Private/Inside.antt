@@ -1,3 +1,4 @@
+-- What only the contracts of functions inside this crate cite, and proofs. No public promise speaks of it: a reader of the promises need not believe it.
 -- What the types inside the crate mean. Assumes nothing.
 use Rattle.std.specs.Prelude.{ℕ, List}
 use Rattle.std.specs.Prelude as std

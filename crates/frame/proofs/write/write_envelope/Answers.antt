@@ -6,13 +6,13 @@ use native.Mathlib.Omega.{arith}
 use lib.ListN.{length}
 use Rattle.std.proofs.lemmas.Result.{err_from_is_err_and}
 use Rattle.types.specs.Write.{fine}
-use Rattle.types.proofs.Put.{wrote_fine, wrote_against}
+use Rattle.types.proofs.Put.{wrote_against}
 use Rattle.frame.specs.Header.{Header}
-use Rattle.frame.specs.Write.{Content, head_fits, warnings_check, envelope_bytes, max_body}
+use Rattle.frame.specs.Write.{Content, head_fits, warnings_check, max_body}
 use Rattle.frame.specs.Private.Inside.{Planned, capped}
 use Rattle.frame.specs.Paper.{paper_header, paper_content}
-use Rattle.frame.proofs.Capped.{capped_within, capped_past}
-use Rattle.frame.proofs.Checked.{given_size, head_unfit, body_long, warnings_unfit, all_fit}
+use Rattle.frame.proofs.Capped.{capped_within}
+use Rattle.frame.proofs.Checked.{given_size, warnings_unfit, all_fit}
 use Rattle.frame.proofs.write.write_envelope.Goals as goal
 
 -- all checks have passed
@@ -21,14 +21,6 @@ planned : (h : Header) (g : Content) {size : ℕ} → size ≡ capped (given_siz
 planned h g e small head checked =
     let within = capped_within (given_size h g) e small in
     subst (λ (k : ℕ). Planned h g k) (sym within.1) (all_fit h g head within.0 checked)
-
-pub returns-then-not-head_fits : goal.returns-then-not-head_fits
-returns-then-not-head_fits c = wrote_against (head_unfit _ _ (sym c.head_fits.ensures ∙ c.if-not-head_fits.true))
-
-pub returns-then-tail-gt-MAX_BODY : goal.returns-then-tail-gt-MAX_BODY
-returns-then-tail-gt-MAX_BODY c =
-    let size = given_size (paper_header c.args.header) (paper_content c.args.content) in
-    wrote_against (body_long _ _ (sym c.head_fits.ensures ∙ c.if-not-head_fits.false) (capped_past size c.tail_size-tail.ensures (omega arith)))
 
 pub returns-in_err-check_warnings : goal.returns-in_err-check_warnings
 returns-in_err-check_warnings c =
@@ -41,11 +33,3 @@ pub put_envelope-requires : goal.put_envelope-requires
 put_envelope-requires c =
     planned (paper_header c.args.header) (paper_content c.args.content)
     c.tail_size-tail.ensures (omega arith) (sym c.head_fits.ensures ∙ c.if-not-head_fits.false) (sym c.in_ok-check_warnings.ensures)
-
-pub returns : goal.returns
-returns c =
-    let h = paper_header c.args.header in
-    let g = paper_content c.args.content in
-    wrote_fine {bs = envelope_bytes h g}
-    (planned h g c.tail_size-tail.ensures (omega arith) (sym c.head_fits.ensures ∙ c.if-not-head_fits.false) (sym c.in_ok-check_warnings.ensures)).check
-    c.put_envelope.ensures

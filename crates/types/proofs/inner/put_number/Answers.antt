@@ -2,7 +2,7 @@
 use mathlib.Core.Path.{◌∙◌}
 use native.Mathlib.Omega.{arith}
 use lib.ListN.{length-set}
-use Rattle.types.proofs.Put.{put_digit, put_zero}
+use Rattle.types.proofs.Put.{put_digit}
 use Rattle.types.proofs.inner.put_number.Goals as goal
 
 pub loop-i-preserved : goal.loop-i-preserved
@@ -11,6 +11,3 @@ loop-i-preserved c = let l = c.loop-i in (
   simp length-set l.invariant.1,
   put_digit l.out c.args.at l.i l.rest c.loop-i-test.true (omega arith) ∙ l.invariant.2,
 )
-
-pub returns : goal.returns
-returns c = put_zero _ _ _ _ c.loop-i-test.false ∙ c.loop-i.invariant.2
