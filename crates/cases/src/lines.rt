@@ -18,9 +18,9 @@ fn answer_each<A: Answerer>(answerer: &mut A, page: &mut Page, input: &[u8]) -> 
         let line = line.strip_suffix(b"\n").unwrap_or(line);
         match answerer.answer(page, line) {
             Some(answered) => answered?,
-            None => write!(page, "?")?,
+            None => page.write_str("?")?,
         }
-        writeln!(page)?;
+        page.write_str("\n")?;
     }
     page.flush()
 }

@@ -10,7 +10,7 @@ use std::io::{Print, Stdout};
 pub const PAGE_LEN: usize = 4096;
 
 // The bytes that gather, how many they are, and where they go out. After a write that failed nothing more is to be written.
-#[derive(Drop)]
+#[derive(Clone, Copy)]
 pub struct Page {
     bytes: [u8; PAGE_LEN],
     filled: usize,
@@ -29,6 +29,8 @@ impl Page {
         }
     }
 
+    // A call of its own, since it comes once in a page, and what writes a byte is short without it.
+    #[inline(never)]
     pub fn flush(&mut self) -> fmt::Result
         ensures { self.new.filled ≡ 0 }
     {
@@ -41,16 +43,56 @@ impl Page {
 }
 
 impl Write for Page {
+    // The count goes along as a number of its own: one that is stored and read again for each byte takes a page twice as long to fill.
     fn write_str(&mut self, s: &str) -> fmt::Result {
+        let mut filled = self.filled;
         for byte in s.as_bytes() {
-            if self.filled == PAGE_LEN {
+            if filled == PAGE_LEN {
+                self.filled = filled;
                 self.flush()?;
+                filled = 0;
             }
-            self.bytes[self.filled] = *byte;
-            self.filled += 1;
+            self.bytes[filled] = *byte;
+            filled += 1;
         }
+        self.filled = filled;
         Ok(())
     }
+}
+
+fn digit(n: u8) -> &'static str {
+    match n {
+        0 => "0",
+        1 => "1",
+        2 => "2",
+        3 => "3",
+        4 => "4",
+        5 => "5",
+        6 => "6",
+        7 => "7",
+        8 => "8",
+        9 => "9",
+        10 => "a",
+        11 => "b",
+        12 => "c",
+        13 => "d",
+        14 => "e",
+        _ => "f",
+    }
+}
+
+// Two hexadecimal digits, and a number's decimal ones. They go out as they are, straight to the page where it is one: a formatter that is told of each and
+// may have to pad it takes twice as long for a line.
+fn write_hex<W: fmt::Write>(out: &mut W, byte: u8) -> fmt::Result {
+    out.write_str(digit(byte / 16))?;
+    out.write_str(digit(byte % 16))
+}
+
+pub fn write_decimal<W: fmt::Write>(out: &mut W, n: u64) -> fmt::Result {
+    if 10 <= n {
+        write_decimal(out, n / 10)?;
+    }
+    out.write_str(digit((n % 10) as u8))
 }
 
 // Bytes as a case spells them: runs of one byte, as in `00,03,61*3`, and `-` for none.
@@ -65,10 +107,10 @@ impl fmt::Display for Spelt<'_> {
         }
         for (k, run) in bytes.chunk_by(|a, b| a == b).enumerate() {
             if 0 < k {
-                write!(f, ",")?;
+                f.write_str(",")?;
             }
             if let Some(byte) = run.first() {
-                write!(f, "{byte:02x}")?;
+                write_hex(f, *byte)?;
             }
             if 1 < run.len() {
                 write!(f, "*{}", run.len())?;
@@ -79,22 +121,25 @@ impl fmt::Display for Spelt<'_> {
 }
 
 // What an envelope's header says, but for the body's length.
+pub fn write_fields<W: fmt::Write>(out: &mut W, header: Header) -> fmt::Result {
+    write_decimal(out, header.version as u64)?;
+    out.write_str(match header.direction {
+        Direction::Request => " req ",
+        Direction::Response => " rsp ",
+    })?;
+    write_hex(out, header.flags)?;
+    out.write_str(if header.stream < 0 { " -" } else { " " })?;
+    write_decimal(out, header.stream.unsigned_abs() as u64)?;
+    out.write_str(" ")?;
+    write_hex(out, header.opcode)
+}
+
+// The same within a text.
 #[derive(Drop)]
 pub struct Fields(pub Header);
 
 impl fmt::Display for Fields {
     fn fmt<W: fmt::Write>(&self, f: &mut fmt::Formatter<W>) -> fmt::Result {
-        let Header {
-            version,
-            direction,
-            flags,
-            stream,
-            opcode,
-        } = self.0;
-        let sent = match direction {
-            Direction::Request => "req",
-            Direction::Response => "rsp",
-        };
-        write!(f, "{version} {sent} {flags:02x} {stream} {opcode:02x}")
+        write_fields(f, self.0)
     }
 }

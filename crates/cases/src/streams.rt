@@ -6,17 +6,41 @@ ghost use Rattle.frame_decoder.specs.Paper.{paper_reader};
 
 use crate::say::Page;
 use frame::Envelope;
-use frame_decoder::{Answer, Buffer, FrameDecoder};
+use frame_decoder::{Answer, FrameDecoder};
 use refusal::Refusal;
 use segment::Form;
 use std::fmt;
-use types::Place;
 
 // What a program says of the answers behind which it reads on.
 pub trait Listener {
     fn envelope(page: &mut Page, bytes: &[u8], envelope: Envelope) -> fmt::Result;
 
     fn leftover(page: &mut Page, n: usize) -> fmt::Result;
+}
+
+// Calls with the rest of a piece until more is asked for or a refusal comes, which it hands back. By 6.3 that is long before the turns are counted.
+fn use_up<L: Listener>(
+    reader: &mut FrameDecoder,
+    segment: &mut [u8],
+    reassembly: &mut [u8],
+    page: &mut Page,
+    piece: &[u8],
+) -> Result<Option<Refusal>, fmt::Error> {
+    let mut rest = piece;
+    for _ in 0..u64::MAX {
+        let heard = reader.consume(segment, reassembly, rest);
+        match heard.answer {
+            Ok(Answer::Envelope(buffer, place, envelope)) => {
+                let bytes = frame_decoder::part(buffer, segment, reassembly, place);
+                L::envelope(page, bytes, envelope)?;
+            }
+            Ok(Answer::Leftover(n)) => L::leftover(page, n)?,
+            Ok(Answer::More) => return Ok(None),
+            Err(why) => return Ok(Some(why)),
+        }
+        rest = rest.get(heard.taken..).unwrap_or(&[]);
+    }
+    Ok(None)
 }
 
 #[derive(Drop)]
@@ -44,31 +68,21 @@ impl<const SEGMENT_LEN: usize, const REASSEMBLY_LEN: usize> Stream<SEGMENT_LEN, 
         self.reader.held()
     }
 
-    fn part(&self, buffer: Buffer, place: Place) -> &[u8] {
-        frame_decoder::part(buffer, &self.segment, &self.reassembly, place)
-    }
-
-    // Calls with the rest of a piece until more is asked for or a refusal comes, which it hands back. By 6.3 that is long before the turns are counted.
+    // Uses up a piece. The reader is a value of its own on the way: one that is stored and read again for each answer takes a program a sixth longer.
     pub fn use_up<L: Listener>(
         &mut self,
         page: &mut Page,
         piece: &[u8],
     ) -> Result<Option<Refusal>, fmt::Error> {
-        let mut rest = piece;
-        for _ in 0..u64::MAX {
-            let heard = self
-                .reader
-                .consume(&mut self.segment, &mut self.reassembly, rest);
-            match heard.answer {
-                Ok(Answer::Envelope(buffer, place, envelope)) => {
-                    L::envelope(page, self.part(buffer, place), envelope)?;
-                }
-                Ok(Answer::Leftover(n)) => L::leftover(page, n)?,
-                Ok(Answer::More) => return Ok(None),
-                Err(why) => return Ok(Some(why)),
-            }
-            rest = rest.get(heard.taken..).unwrap_or(&[]);
-        }
-        Ok(None)
+        let mut reader = self.reader;
+        let used = use_up::<L>(
+            &mut reader,
+            &mut self.segment,
+            &mut self.reassembly,
+            page,
+            piece,
+        );
+        self.reader = reader;
+        used
     }
 }

@@ -123,11 +123,10 @@ impl FrameDecoder {
         }
     }
 
-    pub(crate) fn in_phase(mut self, phase: Phase) -> FrameDecoder
+    pub(crate) fn in_phase(self, phase: Phase) -> FrameDecoder
         ensures { paper_reader result ≡ in_phase (paper_reader self) (paper_phase phase) }
     {
-        self.phase = phase;
-        self
+        FrameDecoder { phase, ..self }
     }
 
     fn with_pending(mut self, pending: usize) -> FrameDecoder

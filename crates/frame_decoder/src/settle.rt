@@ -122,7 +122,9 @@ fn move_down(buffer: &mut [u8], at: usize, n: usize)
     ensures { buffer.new ≡ moved_down buffer.old at n }
 {
     if at != 0 {
-        buffer.copy_within(at..at + n, 0);
+        for i in 0..n {
+            buffer[i] = buffer[at + i];
+        }
     }
 }
 

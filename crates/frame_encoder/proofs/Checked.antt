@@ -17,7 +17,7 @@ use Rattle.frame_encoder.specs.Writer.{Writer, Done, unless, fits, room_for, add
 -- ---- whether an envelope fits
 
 module _ (w : Writer) (n : ℕ) where
-  fits_small : fits w n ≡ true → w.payload + n ≤ max_payload
+  pub fits_small : fits w n ≡ true → w.payload + n ≤ max_payload
   unfolding fits
   fits_small e = omega (arith, ltb-true (w.payload + n) lengths e)
 

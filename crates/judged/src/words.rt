@@ -7,16 +7,19 @@ pub fn get(words: &[usize], k: usize) -> usize {
 }
 
 // Copies what fits, and answers how much there was.
-pub fn copy<T: Copy>(out: &mut [T], from: &[T]) -> usize {
-    let n = out.len().min(from.len());
-    out[..n].copy_from_slice(&from[..n]);
-    from.len()
+pub fn copy(out: &mut [u8], bytes: &[u8]) -> usize {
+    for (slot, byte) in out.iter_mut().zip(bytes) {
+        *slot = *byte;
+    }
+    bytes.len()
 }
 
-// Words from a place on.
-pub fn put(words: &mut [usize], k: usize, values: &[usize]) {
-    if let Some(room) = words.get_mut(k..) {
-        copy(room, values);
+// Items from a place on, each where there is one. One by one: a copy at once of what stands in a function's own memory would need `memcpy` from outside.
+pub fn put<T: Copy>(out: &mut [T], k: usize, items: &[T]) {
+    for (i, item) in items.iter().enumerate() {
+        if let Some(slot) = out.get_mut(k.saturating_add(i)) {
+            *slot = *item;
+        }
     }
 }
 

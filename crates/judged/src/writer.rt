@@ -1,6 +1,6 @@
 // Notations, envelopes and segments written.
 use crate::reader;
-use crate::words::{copy, form, get, of_form, put, put_answer, put_reading};
+use crate::words::{form, get, of_form, put, put_answer, put_reading};
 use frame::Content;
 use frame::write::write_envelope;
 use frame_encoder::{FrameEncoder, Step};
@@ -38,7 +38,7 @@ pub extern "C" fn judged_write_number(
 // Of bytes that are not 16, which no host asks for, the first 16, with zeros for those that are not there.
 fn written_uuid(out: &mut [u8], at: usize, bytes: &[u8]) -> Result<usize, Refusal> {
     let mut id: [u8; 16] = [0; 16];
-    copy(&mut id, bytes);
+    put(&mut id, 0, bytes);
     write::write_uuid(out, at, id)
 }
 

@@ -1,7 +1,7 @@
 // Lists what a stream of short segments on standard input holds, a line for each answer of the reader (docs/RULES.md 12).
 #![tactic(auto)]
 
-use cases::say::{Fields, Page};
+use cases::say::{Page, write_decimal, write_fields};
 use cases::streams::{Listener, Stream};
 use cases::tell::{Failure, tell};
 use frame::Envelope;
@@ -17,9 +17,11 @@ struct Lines;
 
 impl Listener for Lines {
     fn envelope(page: &mut Page, _bytes: &[u8], envelope: Envelope) -> fmt::Result {
-        let fields = Fields(envelope.header);
-        let len = envelope.body.len;
-        writeln!(page, "env {fields} {len}")
+        page.write_str("env ")?;
+        write_fields(page, envelope.header)?;
+        page.write_str(" ")?;
+        write_decimal(page, envelope.body.len as u64)?;
+        page.write_str("\n")
     }
 
     fn leftover(page: &mut Page, n: usize) -> fmt::Result {

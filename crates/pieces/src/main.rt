@@ -45,29 +45,51 @@ struct Cases {
     bytes: [u8; MOST],
 }
 
+// The lengths of the two buffers and the two outputs.
+fn lengths(line: &[u8]) -> Option<[usize; 4]> {
+    Some([
+        words::number_at(line, 1)?,
+        words::number_at(line, 2)?,
+        words::number_at(line, 3)?,
+        words::number_at(line, 4)?,
+    ])
+}
+
 // Buffers and outputs are fresh, and filled so that every change shows: no mark is 1. Only the front of each is lent; where one is not so long it is no case.
+// A function of their own, so that they are filled for no line that has no such words.
+fn give(
+    page: &mut Page,
+    form: Form,
+    lengths: [usize; 4],
+    bytes: &[u8],
+    cuts: &[usize],
+) -> Option<fmt::Result> {
+    let mut segment: [u8; SEGMENT_LEN] = filled(0xee);
+    let mut reassembly: [u8; REASSEMBLY_LEN] = filled(0xee);
+    let mut envelopes: [u8; ENVELOPES_LEN] = filled(0xee);
+    let mut marks: [usize; MARKS_LEN] = filled(1);
+    let [a, b, c, d] = lengths;
+    let segment = segment.get_mut(..a)?;
+    let reassembly = reassembly.get_mut(..b)?;
+    let envelopes = envelopes.get_mut(..c)?;
+    let marks = marks.get_mut(..d)?;
+    let all = collect(form, segment, reassembly, bytes, cuts, envelopes, marks);
+    let outcome = Outcome {
+        all,
+        segment,
+        reassembly,
+        envelopes,
+        marks,
+    };
+    Some(write!(page, "{outcome}"))
+}
+
 impl Answerer for Cases {
     fn answer(&mut self, page: &mut Page, line: &[u8]) -> Option<fmt::Result> {
         let form = form(words::word(line, 0)?)?;
         let cuts = words::items_at(line, 5, &mut self.cuts)?;
         let bytes = words::items_at(line, 6, &mut self.bytes)?;
-        let mut segment: [u8; SEGMENT_LEN] = filled(0xee);
-        let mut reassembly: [u8; REASSEMBLY_LEN] = filled(0xee);
-        let mut envelopes: [u8; ENVELOPES_LEN] = filled(0xee);
-        let mut marks: [usize; MARKS_LEN] = filled(1);
-        let segment = segment.get_mut(..words::number_at(line, 1)?)?;
-        let reassembly = reassembly.get_mut(..words::number_at(line, 2)?)?;
-        let envelopes = envelopes.get_mut(..words::number_at(line, 3)?)?;
-        let marks = marks.get_mut(..words::number_at(line, 4)?)?;
-        let all = collect(form, segment, reassembly, bytes, cuts, envelopes, marks);
-        let outcome = Outcome {
-            all,
-            segment,
-            reassembly,
-            envelopes,
-            marks,
-        };
-        Some(write!(page, "{outcome}"))
+        give(page, form, lengths(line)?, bytes, cuts)
     }
 }
 

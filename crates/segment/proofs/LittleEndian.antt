@@ -7,7 +7,7 @@ use native.Mathlib.Numerals.{add-one, sub-one}
 use native.Mathlib.Nat.{pow-le-pow_right, one-le-pow, mul-le-mul_left, pow-suc, zero-lt-suc, mod-one, mod-eq_of_lt, mod-lt}
 use lib.Arith.{digits_lt, digits_div, digits_mod}
 use lib.ListN.{length-append, length, take, set, get_or}
-use lib.Seq.{take_all}
+use lib.Seq.{drop-cons, take_all}
 use mir.Syntax.{w8, w64}
 use mir.Val.{Fits}
 use borrow.Rule.Slice.PartMut.{put_mid}
@@ -19,6 +19,15 @@ use Rattle.types.specs.Write.{put}
 use Rattle.types.proofs.BigEndian.{length_part, bytes_part, digit_more}
 use Rattle.types.proofs.Put.{paste_all}
 use Rattle.segment.specs.LittleEndian.{le, le_digits}
+
+-- ---- one byte more, in front
+
+pub part_cons : (s : List ℕ) (at k : ℕ) → at < length s → part s at (suc k) ≡ get_or s at 0 ∷ part s (suc at) k
+part_cons s at k h = ap (take (suc k)) (drop-cons s at 0 h)
+
+pub le_part_cons : (s : List ℕ) (at k : ℕ) → at < length s → le (part s at (suc k)) ≡ le (part s (suc at) k) * 256 + get_or s at 0
+unfolding le
+le_part_cons s at k h = ap le (part_cons s at k h)
 
 -- ---- one byte more, behind
 

@@ -40,13 +40,15 @@ pub fn put_number(out: &mut [u8], at: usize, n: usize, x: u64)
     }
 }
 
-// All of src, from at on.
+// All of src, from at on. Byte by byte: a copy by std would have an archive for C need `memcpy` from outside.
 #[tactic(auto, unfolding(crate::specs::Write::put))]
 pub fn put_bytes(out: &mut [u8], at: usize, src: &[u8])
     requires { at + length src.now ≤ length out.old }
     ensures { out.new ≡ put out.old at src.now }
 {
-    out[at..at + src.len()].copy_from_slice(src);
+    for (i, &b) in src.iter().enumerate() {
+        out[at + i] = b;
+    }
 }
 
 // All of src behind its count of n bytes, from at on.
