@@ -7,11 +7,11 @@ pub fn get(words: &[usize], k: usize) -> usize {
 }
 
 // Copies what fits, and answers how much there was.
-pub fn copy(out: &mut [u8], bytes: &[u8]) -> usize {
-    for (slot, byte) in out.iter_mut().zip(bytes) {
-        *slot = *byte;
+pub fn copy<T: Copy>(out: &mut [T], from: &[T]) -> usize {
+    for (slot, item) in out.iter_mut().zip(from) {
+        *slot = *item;
     }
-    bytes.len()
+    from.len()
 }
 
 // Items from a place on, each where there is one. One by one: a copy at once of what stands in a function's own memory would need `memcpy` from outside.
