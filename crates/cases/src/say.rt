@@ -43,7 +43,7 @@ impl Page {
 }
 
 impl Write for Page {
-    // The count goes along as a number of its own: one that is stored and read again for each byte takes a page twice as long to fill.
+    // The count goes along as a number of its own, and is not stored and read again for each byte.
     fn write_str(&mut self, s: &str) -> fmt::Result {
         let mut filled = self.filled;
         for byte in s.as_bytes() {
@@ -81,8 +81,8 @@ fn digit(n: u8) -> &'static str {
     }
 }
 
-// Two hexadecimal digits, and a number's decimal ones. They go out as they are, straight to the page where it is one: a formatter that is told of each and
-// may have to pad it takes twice as long for a line.
+// Two hexadecimal digits, and a number's decimal ones. They go out as they are, straight to the page where it is one: programs write little else, and std's
+// formatter, which may have to pad, is dear for a byte or a digit.
 fn write_hex<W: fmt::Write>(out: &mut W, byte: u8) -> fmt::Result {
     out.write_str(digit(byte / 16))?;
     out.write_str(digit(byte % 16))

@@ -68,7 +68,7 @@ impl<const SEGMENT_LEN: usize, const REASSEMBLY_LEN: usize> Stream<SEGMENT_LEN, 
         self.reader.held()
     }
 
-    // Uses up a piece. The reader is a value of its own on the way: one that is stored and read again for each answer takes a program a sixth longer.
+    // Uses up a piece. On the way the reader is a value of its own, and is not stored and read again for each answer.
     pub fn use_up<L: Listener>(
         &mut self,
         page: &mut Page,
