@@ -38,7 +38,7 @@ fn use_up<L: Listener>(
             Ok(Answer::More) => return Ok(None),
             Err(why) => return Ok(Some(why)),
         }
-        rest = rest.get(heard.taken..).unwrap_or(&[]);
+        rest = &rest[heard.taken.min(rest.len())..];
     }
     Ok(None)
 }

@@ -6,7 +6,7 @@ ghost use Rattle.frame_decoder.specs.Call.{work};
 ghost use Rattle.frame_decoder.specs.Paper.{paper_reader, paper_step};
 ghost use Rattle.frame_decoder.specs.Private.Inside.{Admitted, wanted, Roomy, step_of, FilledIs, TurnIs};
 
-use crate::settle::settle;
+use crate::settle::{Due, settle};
 use crate::{Answer, FrameDecoder, Heard, Phase, Step};
 use refusal::Refusal;
 use segment::{TRAILER_LEN, header_len};
@@ -83,15 +83,15 @@ fn take_turn(
     requires { Admitted (paper_reader m) (length segment.old) (length reassembly.old) × (taken ≤ length piece.now) }
     ensures { TurnIs result taken (paper_reader m) segment.old reassembly.old piece.now segment.new reassembly.new }
 {
-    let due = settle(m, segment, reassembly);
-    match due.answer {
-        Some(answer) => ControlFlow::Break(step(due.reader, answer, taken)),
-        None if taken == piece.len() => {
-            ControlFlow::Break(step(due.reader, Ok(Answer::More), taken))
+    match settle(m, segment, reassembly) {
+        Due::Answered(answer, reader) => ControlFlow::Break(step(reader, Ok(answer), taken)),
+        Due::Refused(e, reader) => ControlFlow::Break(step(reader, Err(e), taken)),
+        Due::Waits(reader) if taken == piece.len() => {
+            ControlFlow::Break(step(reader, Ok(Answer::More), taken))
         }
-        None => {
-            let took = fill(due.reader, segment, &piece[taken..]);
-            ControlFlow::Continue((pushed(due.reader, took), taken + took))
+        Due::Waits(reader) => {
+            let took = fill(reader, segment, &piece[taken..]);
+            ControlFlow::Continue((pushed(reader, took), taken + took))
         }
     }
 }

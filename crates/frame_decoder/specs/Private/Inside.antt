@@ -15,18 +15,10 @@ use Rattle.std.specs.Prelude as std
 use Rattle.std.proofs.Common.{ControlFlow, Continue, Break}
 use Rattle.refusal.specs.declared.Refusal as why
 
-abbrev pub due_as : std.Option (std.Result code-answer.Answer why.Refusal) → code-decoder.FrameDecoder → settling.Due
-due_as std.None r = settling.waits (paper_reader r)
-due_as (std.Some answer) r = settling.due (paper_answer answer) (paper_reader r)
-
 abbrev pub paper_due : Due → settling.Due
-paper_due d = due_as d.answer d.reader
-
-abbrev pub waiting : code-decoder.FrameDecoder → Due
-waiting r = record { answer = std.None; reader = r }
-
-abbrev pub answering : code-answer.Answer → code-decoder.FrameDecoder → Due
-answering answer r = record { answer = std.Some (std.Ok answer); reader = r }
+paper_due (Due.Answered answer r) = settling.due (paper_answer (std.Ok answer)) (paper_reader r)
+paper_due (Due.Refused e r) = settling.due (paper_answer (std.Err e)) (paper_reader r)
+paper_due (Due.Waits r) = settling.waits (paper_reader r)
 
 abbrev pub step_of : code-decoder.FrameDecoder → std.Result code-answer.Answer why.Refusal → ℕ → Step
 step_of r answer taken = record { reader = r; heard = record { answer = answer; taken = taken } }
